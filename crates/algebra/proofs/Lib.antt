@@ -1,0 +1,6 @@
+pub mod Sets
+pub mod Values
+pub mod Reduced
+pub mod OneForm
+pub mod Bit
+pub mod Derivation

@@ -1,0 +1,4 @@
+pub mod Sets
+pub mod Polynomial
+pub mod Reduced
+pub mod Derivation

@@ -1,0 +1,1 @@
+// No code: sets of variables, polynomials, their reduced form and their values.
