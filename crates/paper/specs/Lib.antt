@@ -1,0 +1,11 @@
+pub mod Verdict
+pub mod Text
+pub mod Reader
+pub mod Statement
+pub mod Grammar
+pub mod Meaning
+pub mod State
+pub mod Rules
+pub mod Answer
+pub mod Says
+pub mod Spelling

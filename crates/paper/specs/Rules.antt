@@ -1,0 +1,94 @@
+-- When a statement is refused, in the order of the verdicts, and what one that stands changes.
+use mathlib.Core.Bool.{Bool, false, _||_, not}
+use mathlib.Core.List.{List, [], _∷_, _++_, map}
+use Prim.Native.Nat.{ℕ, _+_, _*_, _^_}
+use lib.Bits.{bitOr}
+use lib.Dec.{eqb, leb, ltb}
+use lib.ListN.{length}
+use Rattle.ground.specs.Lists.{every, any, total}
+use Rattle.limits.specs.Limits.{storedPolynomials, lineProducts}
+use Rattle.algebra.specs.Sets.{has}
+use Rattle.algebra.specs.Polynomial.{Poly, vars, equal, products, reduce, product, extension}
+use Rattle.algebra.specs.Derivation.{allVars}
+use Rattle.limits.specs.Verdicts.{NUMBER, TERMS, ORDER, TAKEN, MISSING, SEEN, PRODUCTS, MISMATCH, NOTBIT, FULL}
+use Rattle.paper.specs.Verdict.{Row, row}
+use Rattle.paper.specs.Statement.{Written, Pair, Statement, cases, onRing, onInput, onGoal, onLin, onDel, onExt, newIndex, namedIndices, fields}
+use Rattle.paper.specs.Meaning.{numbersInRange, tooManyTerms, reduced}
+use Rattle.paper.specs.State.{modulo, bits, opening, inputs, steps, Entry, Store, stored, find, remove, storedTerms, State}
+
+-- where a statement may stand
+unfoldable pub place : Statement → ℕ
+place = cases (λ k. opening) (λ i p. inputs) (λ p. inputs) (λ i p qs. steps) (λ i. steps) (λ i v p. steps)
+
+-- the variable that a statement defines
+unfoldable pub defines : Statement → ℕ
+defines = onExt 0 (λ i v p. 2 ^ v)
+
+module _ (k : ℕ) where
+  abbrev pub entry : ℕ → Poly → Store
+  entry i p = record { index = i; poly = p } ∷ []
+
+  -- what a statement stores: an ext -v + p, the others the polynomial they state
+  unfoldable pub entries : Statement → Store
+  entries = cases (λ j. []) (λ i p. entry i (reduced k p)) (λ p. []) (λ i p qs. entry i (reduced k p)) (λ i. []) (λ i v p. entry i (extension k v (reduced k p)))
+
+  -- the variables that a statement makes seen: all that its reduced polynomials hold, and its own
+  unfoldable pub makesSeen : Statement → ℕ
+  makesSeen st = bitOr (defines st) (allVars (map (reduced k) (fields st)))
+
+  -- the sum of factor times named polynomial
+  unfoldable pub combination : (ℕ → Poly) → List Pair → Poly
+  combination named [] = []
+  combination named (q ∷ qs) = products (reduced k (q .factor)) (named (q .index)) ++ combination named qs
+
+  unfoldable pub productCount : (ℕ → Poly) → Statement → ℕ
+  productCount named st =
+      onLin 0 (λ i p qs. total (λ q. length (reduced k (q .factor)) * length (named (q .index))) qs) st
+      + onExt 0 (λ i v p. length (reduced k p) * length (reduced k p)) st
+
+  unfoldable pub isBit : Written → Bool
+  isBit p = equal (product k (reduced k p) (reduced k p)) (reduced k p)
+
+-- no room for the entries beside the store in a pool of so many terms
+unfoldable pub overfull : ℕ → Store → Store → Bool
+overfull capacity s [] = false
+overfull capacity s (e ∷ es) = leb storedPolynomials (length s) || ltb capacity (storedTerms s + length (e .poly))
+
+pub record Case : Type 0 where
+  pub capacity : ℕ
+  pub state : State
+  pub statement : Statement
+
+abbrev pub ringOf : Case → ℕ
+ringOf c = bits (c .state .ring)
+
+unfoldable pub rules : List (Row Case)
+rules =
+    row NUMBER (λ c. not (numbersInRange (c .statement)))
+    ∷ row TERMS (λ c. any tooManyTerms (fields (c .statement)))
+    ∷ row ORDER (λ c. not (eqb (place (c .statement)) (c .state .phase)))
+    ∷ row TAKEN (λ c. any (stored (c .state .store)) (newIndex (c .statement)))
+    ∷ row MISSING (λ c. not (every (stored (c .state .store)) (namedIndices (c .statement))))
+    ∷ row SEEN (λ c. onExt false (λ i v p. has (bitOr (vars (reduced (ringOf c) p)) (c .state .seen)) v) (c .statement))
+    ∷ row PRODUCTS (λ c. ltb lineProducts (productCount (ringOf c) (find (c .state .store)) (c .statement)))
+    ∷ row MISMATCH (λ c. onLin false (λ i p qs. not (equal (reduced (ringOf c) p) (reduce (ringOf c) (combination (ringOf c) (find (c .state .store)) qs)))) (c .statement))
+    ∷ row NOTBIT (λ c. onExt false (λ i v p. not (isBit (ringOf c) p)) (c .statement))
+    ∷ row FULL (λ c. overfull (c .capacity) (c .state .store) (entries (ringOf c) (c .statement)))
+    ∷ []
+
+-- some stored polynomial is g
+unfoldable pub holdsGoal : Poly → Store → Bool
+holdsGoal g s = any (λ e. equal (e .poly) g) s
+
+unfoldable pub after : State → Statement → State
+after s st =
+    let k : ℕ = bits (s .ring) in
+    record {
+      phase = onRing (onGoal (s .phase) (λ p. steps) st) (λ j. inputs) st;
+      ring = onRing (s .ring) (λ j. modulo j) st;
+      store = onDel (s .store ++ entries k st) (λ i. remove (s .store) i) st;
+      seen = bitOr (makesSeen k st) (s .seen);
+      goal = onGoal (s .goal) (λ p. reduced k p) st;
+      reached = onGoal (onInput (s .reached || holdsGoal (s .goal) (entries k st)) (λ i p. false) st) (λ p. holdsGoal (reduced k p) (s .store)) st;
+      products = s .products + productCount k (find (s .store)) st;
+    }

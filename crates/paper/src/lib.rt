@@ -1,0 +1,1 @@
+// No code: the rules of the paper as definitions.

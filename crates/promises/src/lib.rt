@@ -1,0 +1,1 @@
+// No code: what is promised, as statements in specs/ and their proofs in proofs/.
