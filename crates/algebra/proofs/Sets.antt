@@ -10,7 +10,7 @@ use lib.Arith.{bin-ind, digits-mod}
 use lib.Bits.{bitOr, bitAnd, bitXor, differ, or-step, and-step, xor-step, or-shr, and-shr, xor-shr, and-le-r}
 use lib.Pow.{shr-shr}
 use lib.Dec.{eqb}
-use borrow.Author.Tests.{eqb-true, eqb-false, eq-eqb}
+use borrow.Author.Tests.{eqb-true, eqb-false, eq-eqb, ne-eqb}
 use Rattle.ground.proofs.Tests.{split, bool-ext, and-left, and-right, and-both}
 use Rattle.algebra.specs.Sets.{bit, has, holds, AgreeOn, DifferOnlyAt, Apart}
 
@@ -156,3 +156,7 @@ apart-agree {m} {n} h d = record { at = λ v e. d .at v (omega (arith, bit-lt m 
   where
     clash : (v : ℕ) → bit n v ≡ 1 → bit m v ≡ 1 → ⊥
     clash v e f = omega (arith, h .at v f)
+
+pub has-none : (m v : ℕ) → bit m v ≡ 0 → has m v ≡ false
+unfolding has
+has-none m v e = ne-eqb (bit m v) 1 (λ f. omega arith)

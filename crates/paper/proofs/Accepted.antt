@@ -1,0 +1,69 @@
+-- A text whose statements all stand and reach the goal: its inputs force its goal, and definitions can be met. Assumes nothing.
+use mathlib.Core.Path.{_≡_, refl, sym, ap, _∙_, subst}
+use mathlib.Core.Bool.{true, cond}
+use mathlib.Core.List.{List, [], _∷_}
+use Prim.Native.Nat.{ℕ, _<_, _≤_}
+use native.Mathlib.Omega.{arith}
+use lib.Bits.{bitOr}
+use lib.Dec.{eqb}
+use Rattle.ground.specs.Lists.{gather}
+use Rattle.algebra.specs.Sets.{bit, DifferOnlyAt, Apart}
+use Rattle.algebra.specs.Polynomial.{Poly, value, vars}
+use Rattle.algebra.specs.Derivation.{allVars, AllZero, Forced, none}
+use Rattle.algebra.proofs.Sets.{bit-or, bit-of-zero}
+use Rattle.algebra.proofs.Bit.{value-none}
+use Rattle.algebra.proofs.Derivation.{Zeroed, derived-zero, derived-goal}
+use Rattle.paper.specs.Statement.{Statement, ring, input, goal, lin, del, ext, fields}
+use Rattle.paper.specs.State.{modulo, steps, State, start}
+use Rattle.paper.specs.Rules.{place, defines, entries, makesSeen, after}
+use Rattle.paper.specs.Says.{ringIn, definedIn, inputsIn, goalIn, introducedIn}
+use Rattle.paper.proofs.Stands.{Stands, stands-none}
+use Rattle.paper.proofs.Steps.{Steps, done, step, caseOf}
+use Rattle.paper.proofs.Sound.{Good, Final, final, aimOf}
+
+-- all of it at the ring k
+pub record Sound (k : ℕ) (sts : List Statement) : Type 0 where
+  pub goal-zero : (a : ℕ) → AllZero k a (inputsIn k sts) → value k a (goalIn k sts) ≡ 0
+  pub all-zero : (a : ℕ) → AllZero k a (inputsIn k sts) → Zeroed k a (definedIn sts) (introducedIn k sts)
+
+good-ring : (k : ℕ) → Good k (after start (ring k)) [] 0 []
+unfolding after start entries makesSeen defines fields allVars vars
+good-ring k = record {
+  ringed = refl;
+  begun = omega arith;
+  derived = none;
+  kept = λ b z. tt;
+  witnessed = λ v. omega (arith, bit-of-zero v);
+  early = λ e. refl;
+  aimed = λ v. omega (arith, bit-of-zero v);
+  apart = record { at = λ v e. bit-of-zero v };
+  hit = λ e. record { at = λ b z. value-none k b };
+}
+
+sound-ring : (k : ℕ) (sts : List Statement) (e : State) → Final k (after start (ring k)) sts [] 0 [] e → e .phase ≡ steps → e .reached ≡ true
+    → Sound k (ring k ∷ sts)
+unfolding inputsIn goalIn introducedIn definedIn defines gather after entries
+sound-ring k sts e f ph re = record {
+  goal-zero = λ a z. ap (value k a) (sym aim) ∙ derived-goal k (f .good .derived) (f .good .apart) (f .good .hit re) a (f .given a tt z);
+  all-zero = λ a z.
+      let d = derived-zero k (f .good .derived) a (f .given a tt z) in
+      record {
+        now = d .now;
+        only = record { at = λ w n. d .only .at w (f .only w (bit-of-zero w) (omega (arith, bit-or 0 (definedIn sts) w))) };
+        null = f .new (d .now) (d .null);
+      };
+}
+  where
+    aim : e .goal ≡ goalIn k sts
+    aim = sym (ap (λ (x : ℕ). cond (eqb x steps) (e .goal) (goalIn k [])) ph) ∙ f .aim
+
+pub sound-steps : (capacity : ℕ) {s e : State} {sts : List Statement} → Steps capacity s sts e → s ≡ start → e .phase ≡ steps → e .reached ≡ true → Sound (ringIn sts) sts
+unfolding start ringIn place
+sound-steps capacity done q ph re = absurd (omega (arith, ap (λ (x : State). x .phase) q))
+sound-steps capacity (step {s} {e} {sts} (ring k) h r) q ph re =
+    sound-ring k sts e (subst (λ (x : State). Final k (after x (ring k)) sts [] 0 [] e) q (final k capacity r [] 0 [] (subst (λ (x : State). Good k (after x (ring k)) [] 0 []) (sym q) (good-ring k)))) ph re
+sound-steps capacity (step {s} (input i p) h r) q ph re = absurd (omega (arith, stands-none (caseOf capacity s (input i p)) h .placed, ap (λ (x : State). x .phase) q))
+sound-steps capacity (step {s} (goal p) h r) q ph re = absurd (omega (arith, stands-none (caseOf capacity s (goal p)) h .placed, ap (λ (x : State). x .phase) q))
+sound-steps capacity (step {s} (lin i p qs) h r) q ph re = absurd (omega (arith, stands-none (caseOf capacity s (lin i p qs)) h .placed, ap (λ (x : State). x .phase) q))
+sound-steps capacity (step {s} (del i) h r) q ph re = absurd (omega (arith, stands-none (caseOf capacity s (del i)) h .placed, ap (λ (x : State). x .phase) q))
+sound-steps capacity (step {s} (ext i v p) h r) q ph re = absurd (omega (arith, stands-none (caseOf capacity s (ext i v p)) h .placed, ap (λ (x : State). x .phase) q))

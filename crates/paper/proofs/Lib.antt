@@ -1,0 +1,4 @@
+pub mod Stands
+pub mod Steps
+pub mod Sound
+pub mod Accepted

@@ -1,0 +1,67 @@
+-- A statement stands exactly where no row refuses it, and what the rows say of one that does. Assumes nothing.
+use mathlib.Core.Path.{_≡_, refl}
+use mathlib.Core.Bool.{Bool, true, false, not, cond}
+use mathlib.Core.List.{List, [], _∷_}
+use Prim.Native.Nat.{ℕ, _≤_, _<_}
+use native.Mathlib.Omega.{arith}
+use lib.Bits.{bitOr}
+use lib.Dec.{eqb, ltb}
+use borrow.Author.Tests.{ltb-true, ltb-false, eqb-true, not-false}
+use Rattle.ground.specs.Lists.{every, any}
+use Rattle.ground.proofs.Tests.{and-left, and-right}
+use Rattle.limits.specs.Limits.{lineProducts}
+use Rattle.algebra.specs.Sets.{has}
+use Rattle.algebra.specs.Polynomial.{vars, equal, reduce}
+use Rattle.paper.specs.Verdict.{Row, row, first}
+use Rattle.paper.specs.Statement.{Statement, onLin, onExt, newIndex, namedIndices, fields}
+use Rattle.paper.specs.Meaning.{numbersInRange, tooManyTerms, reduced}
+use Rattle.paper.specs.State.{stored, find, State}
+use Rattle.paper.specs.Rules.{place, entries, combination, productCount, isBit, overfull, Case, ringOf, rules}
+
+-- ---- any table
+past : (b : Bool) (v w : ℕ) → 0 < v → cond b v w ≡ 0 → (b ≡ false) × (w ≡ 0)
+past true v w h e = absurd (omega arith)
+past false v w h e = (refl, e)
+
+module _ {A : Type 0} where
+  abbrev pub NoneRefuses : List (Row A) → A → Type 0
+  NoneRefuses [] x = Unit {0}
+  NoneRefuses (r ∷ rs) x = (r .refuses x ≡ false) × NoneRefuses rs x
+
+  pub none-refuses : (rs : List (Row A)) (x : A) → every (λ r. ltb 0 (r .verdict)) rs ≡ true → first rs x ≡ 0 → NoneRefuses rs x
+  unfolding first every
+  none-refuses [] x h e = tt
+  none-refuses (r ∷ rs) x h e =
+      let p : (r .refuses x ≡ false) × (first rs x ≡ 0) =
+      past (r .refuses x) (r .verdict) (first rs x) (ltb-true 0 (r .verdict) (and-left (ltb 0 (r .verdict)) (every (λ r. ltb 0 (r .verdict)) rs) h)) e in
+      (p .0, none-refuses rs x (and-right (ltb 0 (r .verdict)) (every (λ r. ltb 0 (r .verdict)) rs) h) (p .1))
+
+-- ---- the table of statements
+pub record Stands (c : Case) : Type 0 where
+  pub ranged : numbersInRange (c .statement) ≡ true
+  pub short : any tooManyTerms (fields (c .statement)) ≡ false
+  pub placed : place (c .statement) ≡ c .state .phase
+  pub free : any (stored (c .state .store)) (newIndex (c .statement)) ≡ false
+  pub present : every (stored (c .state .store)) (namedIndices (c .statement)) ≡ true
+  pub unseen : onExt false (λ i v p. has (bitOr (vars (reduced (ringOf c) p)) (c .state .seen)) v) (c .statement) ≡ false
+  pub few : productCount (ringOf c) (find (c .state .store)) (c .statement) ≤ lineProducts
+  pub summed : onLin false (λ i p qs. not (equal (reduced (ringOf c) p) (reduce (ringOf c) (combination (ringOf c) (find (c .state .store)) qs)))) (c .statement) ≡ false
+  pub square : onExt false (λ i v p. not (isBit (ringOf c) p)) (c .statement) ≡ false
+  pub fits : overfull (c .capacity) (c .state .store) (entries (ringOf c) (c .statement)) ≡ false
+
+pub stands-none : (c : Case) → first rules c ≡ 0 → Stands c
+unfolding rules every
+stands-none c e =
+    let n = none-refuses rules c refl e in
+    record {
+      ranged = not-false (numbersInRange (c .statement)) (n .0);
+      short = n .1 .0;
+      placed = eqb-true (place (c .statement)) (c .state .phase) (not-false (eqb (place (c .statement)) (c .state .phase)) (n .1 .1 .0));
+      free = n .1 .1 .1 .0;
+      present = not-false (every (stored (c .state .store)) (namedIndices (c .statement))) (n .1 .1 .1 .1 .0);
+      unseen = n .1 .1 .1 .1 .1 .0;
+      few = ltb-false lineProducts (productCount (ringOf c) (find (c .state .store)) (c .statement)) (n .1 .1 .1 .1 .1 .1 .0);
+      summed = n .1 .1 .1 .1 .1 .1 .1 .0;
+      square = n .1 .1 .1 .1 .1 .1 .1 .1 .0;
+      fits = n .1 .1 .1 .1 .1 .1 .1 .1 .1 .0;
+    }

@@ -1,0 +1,134 @@
+-- A run is a row of statements that stand, and a last word. Assumes nothing.
+use mathlib.Core.Path.{_≡_, refl, sym, ap, _∙_, subst}
+use mathlib.Core.Bool.{Bool, true, false, cond}
+use mathlib.Core.List.{List, [], _∷_, _++_, reverseAux}
+use Prim.Native.Nat.{ℕ, suc, _<_}
+use native.Mathlib.Omega.{arith}
+use lib.Dec.{eqb, leb, ltb}
+use lib.ListN.{length}
+use borrow.Author.Tests.{eqb-true, eqb-false}
+use Rattle.ground.specs.Lists.{gather}
+use Rattle.ground.proofs.Tests.{by-cond}
+use Rattle.limits.specs.Limits.{lineBytes}
+use Rattle.limits.specs.Verdicts.{LONGLINE, NOGOAL, NOTREACHED}
+use Rattle.paper.specs.Verdict.{first}
+use Rattle.paper.specs.Text.{Line}
+use Rattle.paper.specs.Reader.{Read, got, stuck}
+use Rattle.paper.specs.Statement.{Statement}
+use Rattle.paper.specs.Grammar.{statement}
+use Rattle.paper.specs.State.{steps, storedTerms, State}
+use Rattle.paper.specs.Rules.{Case, rules, after}
+use Rattle.paper.specs.Answer.{Answer, Outcome, stands, refused, indexOf, judge, judgeRead, judgeLine, report, ending, proceed, run}
+use Rattle.paper.specs.Says.{ifRead, ifStands, acceptedFrom}
+
+positive : (n : ℕ) → (n ≡ 0 → ⊥) → 0 < n
+positive n h = omega (arith, h)
+
+module _ (capacity : ℕ) where
+  abbrev pub caseOf : State → Statement → Case
+  caseOf s st = record { capacity = capacity; state = s; statement = st }
+
+  -- from s to e by statements that stand, in the order of the text
+  pub data Steps : State → List Statement → State → Type 0 where
+    done : {s : State} → Steps s [] s
+    step : {s e : State} {sts : List Statement} (st : Statement) → first rules (caseOf s st) ≡ 0 → Steps (after s st) sts e → Steps s (st ∷ sts) e
+
+  -- ---- one line
+  abbrev Judged : State → Read Statement → Outcome → Type 0
+  Judged s (got st r) (stands s′) = (first rules (caseOf s st) ≡ 0) × (s′ ≡ after s st)
+  Judged s (stuck r) (stands s′) = ⊥
+  Judged s r (refused v i) = 0 < v
+
+  judged-read : (s : State) (r : Read Statement) → Judged s r (judgeRead capacity s r)
+  unfolding judgeRead judge
+  judged-read s (got st r) =
+      by-cond (Judged s (got st r)) (eqb (first rules (caseOf s st)) 0)
+      (λ e. (eqb-true (first rules (caseOf s st)) 0 e, refl))
+      (λ e. positive (first rules (caseOf s st)) (eqb-false (first rules (caseOf s st)) 0 e))
+  judged-read s (stuck r) = omega arith
+
+  judged : (s : State) (l : Line) → Judged s (statement l) (judgeLine capacity s l)
+  unfolding judgeLine
+  judged s l = by-cond (Judged s (statement l)) (ltb lineBytes (length (l .content))) (λ e. long (statement l)) (λ e. judged-read s (statement l))
+    where
+      long : (r : Read Statement) → Judged s r (refused LONGLINE 0)
+      long (got st r) = omega arith
+      long (stuck r) = omega arith
+
+  -- ---- all lines: those that stood, what is heard of them, and the answer
+  pub record Ran (s : State) (heard : List Statement → List Statement) (read : List Statement) (a : Answer) : Type 0 where
+    pub last : State
+    pub sts : List Statement
+    pub went : Steps s sts last
+    pub hear : (h : List Statement) → heard h ≡ reverseAux sts h
+    pub products : a .products ≡ last .products
+    pub polynomials : a .polynomials ≡ length (last .store)
+    pub terms : a .terms ≡ storedTerms (last .store)
+    pub phase : a .verdict ≡ 0 → last .phase ≡ steps
+    pub reached : a .verdict ≡ 0 → last .reached ≡ true
+    pub all : a .verdict ≡ 0 → sts ≡ read
+
+  stopped : (s : State) (read : List Statement) (v n i : ℕ) → 0 < v → Ran s (λ h. h) read (report s v n i)
+  unfolding report
+  stopped s read v n i h = record {
+    last = s;
+    sts = [];
+    went = done;
+    hear = λ h. refl;
+    products = refl;
+    polynomials = refl;
+    terms = refl;
+    phase = λ e. absurd (omega arith);
+    reached = λ e. absurd (omega arith);
+    all = λ e. absurd (omega arith);
+  }
+
+  ended : (s : State) (n : ℕ) → Ran s (λ h. h) [] (ending s n)
+  unfolding ending report
+  ended s n =
+      by-cond Goal (eqb (s .phase) steps)
+      (λ e. by-cond Goal (s .reached)
+      (λ f. record {
+        last = s;
+        sts = [];
+        went = done;
+        hear = λ h. refl;
+        products = refl;
+        polynomials = refl;
+        terms = refl;
+        phase = λ z. eqb-true (s .phase) steps e;
+        reached = λ z. f;
+        all = λ z. refl;
+      })
+      (λ f. stopped s [] NOTREACHED n 0 (omega arith)))
+      (λ e. stopped s [] NOGOAL n 0 (omega arith))
+    where
+      Goal : Answer → Type 0
+      Goal a = Ran s (λ h. h) [] a
+
+  module _ (s : State) (n : ℕ) (ls : List Line) (rest : (s′ : State) → Ran s′ (λ h. acceptedFrom capacity s′ h ls) (gather (λ l. ifRead (statement l)) ls) (run capacity s′ n ls)) where
+    onward : (r : Read Statement) (o : Outcome) → Judged s r o
+        → Ran s (λ h. ifStands r o h (λ s′ h′. acceptedFrom capacity s′ h′ ls)) (ifRead r ++ gather (λ l. ifRead (statement l)) ls)
+        (proceed o (λ s′. run capacity s′ n ls) (λ v i. report s v n i))
+    onward (got st r) (stands s′) j =
+        let f = rest s′ in
+        record {
+          last = f .last;
+          sts = st ∷ f .sts;
+          went = step st (j .0) (subst (λ (x : State). Steps x (f .sts) (f .last)) (j .1) (f .went));
+          hear = λ h. f .hear (st ∷ h);
+          products = f .products;
+          polynomials = f .polynomials;
+          terms = f .terms;
+          phase = f .phase;
+          reached = f .reached;
+          all = λ e. ap (λ (x : List Statement). st ∷ x) (f .all e);
+        }
+    onward (stuck r) (stands s′) j = absurd j
+    onward (got st r) (refused v i) j = stopped s (st ∷ gather (λ l. ifRead (statement l)) ls) v n i j
+    onward (stuck r) (refused v i) j = stopped s (gather (λ l. ifRead (statement l)) ls) v n i j
+
+  pub ran : (s : State) (n : ℕ) (ls : List Line) → Ran s (λ h. acceptedFrom capacity s h ls) (gather (λ l. ifRead (statement l)) ls) (run capacity s n ls)
+  unfolding run acceptedFrom gather
+  ran s n [] = ended s n
+  ran s n (l ∷ ls) = onward s (suc n) ls (λ s′. ran s′ (suc n) ls) (statement l) (judgeLine capacity s l) (judged s l)
