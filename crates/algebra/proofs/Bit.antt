@@ -1,10 +1,10 @@
 -- The test of equality, values that hang on the variables only, and polynomials that are 0 or 1 everywhere. Assumes nothing.
 use mathlib.Core.Path.{_≡_, refl, sym, ap, ap₂, _∙_}
 use mathlib.Core.Bool.{Bool, true, false, _&&_}
-use mathlib.Core.Logic.{⊎-elim}
+use mathlib.Core.Logic.{_⊎_, ⊎-elim}
 use mathlib.Core.List.{[], _∷_}
 use Prim.Native.Nat.{ℕ, zero, suc, _+_, _-_, _%_, _^_, _<_}
-use native.Mathlib.Nat.{mod-mod, zero-mod, mod-self}
+use native.Mathlib.Nat.{mod-lt, mod-mod, zero-mod, mod-self}
 use native.Mathlib.Omega.{arith}
 use lib.Pow.{pow-pos}
 use lib.Dec.{eqb}
@@ -62,11 +62,16 @@ module _ (k : ℕ) where
   unfolding value
   value-mod a p = mod-mod (sumAt a p) (2 ^ k)
 
+  pub value-lt : (a : ℕ) (p : Poly) → value k a p < 2 ^ k
+  unfolding value
+  value-lt a p = mod-lt (sumAt a p) (pow-pos k)
+
   -- a polynomial whose square is itself is 0 or 1 at each assignment
+  pub bit-cases : (a : ℕ) (p : Poly) → product k p p ≡ p → Same (2 ^ k) (value k a p) 0 ⊎ Same (2 ^ k) (value k a p) 1
+  bit-cases a p e = bit-square k (value k a p) (record { same = sym (value-mul k a p p) ∙ ap (value k a) e ∙ sym (value-mod a p) })
+
   pub bit-valued : (a : ℕ) (p : Poly) → product k p p ≡ p → (d : ℕ) × (d < 2) × Same (2 ^ k) (value k a p) d
-  bit-valued a p e =
-      ⊎-elim (λ h. (0, omega arith, h)) (λ h. (1, omega arith, h))
-      (bit-square k (value k a p) (record { same = sym (value-mul k a p p) ∙ ap (value k a) e ∙ sym (value-mod a p) }))
+  bit-valued a p e = ⊎-elim (λ h. (0, omega arith, h)) (λ h. (1, omega arith, h)) (bit-cases a p e)
 
   minus : (d : ℕ) → d < 2 → Same (2 ^ k) (keep (eqb d 1) (2 ^ k - 1) + d) 0
   minus zero l = same-refl

@@ -13,12 +13,11 @@ use Rattle.algebra.specs.Derivation.{allVars, AllZero, Forced, none}
 use Rattle.algebra.proofs.Sets.{bit-or, bit-of-zero}
 use Rattle.algebra.proofs.Bit.{value-none}
 use Rattle.algebra.proofs.Derivation.{Zeroed, derived-zero, derived-goal}
-use Rattle.paper.specs.Statement.{Statement, ring, input, goal, lin, del, ext, fields}
+use Rattle.paper.specs.Statement.{Statement, ring, fields}
 use Rattle.paper.specs.State.{modulo, steps, State, start}
-use Rattle.paper.specs.Rules.{place, defines, entries, makesSeen, after}
+use Rattle.paper.specs.Rules.{defines, entries, makesSeen, after}
 use Rattle.paper.specs.Says.{ringIn, definedIn, inputsIn, goalIn, introducedIn}
-use Rattle.paper.proofs.Stands.{Stands, stands-none}
-use Rattle.paper.proofs.Steps.{Steps, done, step, caseOf}
+use Rattle.paper.proofs.Steps.{Opened, nothing, opening}
 use Rattle.paper.proofs.Sound.{Good, Final, final, aimOf}
 
 -- all of it at the ring k
@@ -57,13 +56,7 @@ sound-ring k sts e f ph re = record {
     aim : e .goal ≡ goalIn k sts
     aim = sym (ap (λ (x : ℕ). cond (eqb x steps) (e .goal) (goalIn k [])) ph) ∙ f .aim
 
-pub sound-steps : (capacity : ℕ) {s e : State} {sts : List Statement} → Steps capacity s sts e → s ≡ start → e .phase ≡ steps → e .reached ≡ true → Sound (ringIn sts) sts
-unfolding start ringIn place
-sound-steps capacity done q ph re = absurd (omega (arith, ap (λ (x : State). x .phase) q))
-sound-steps capacity (step {s} {e} {sts} (ring k) h r) q ph re =
-    sound-ring k sts e (subst (λ (x : State). Final k (after x (ring k)) sts [] 0 [] e) q (final k capacity r [] 0 [] (subst (λ (x : State). Good k (after x (ring k)) [] 0 []) (sym q) (good-ring k)))) ph re
-sound-steps capacity (step {s} (input i p) h r) q ph re = absurd (omega (arith, stands-none (caseOf capacity s (input i p)) h .placed, ap (λ (x : State). x .phase) q))
-sound-steps capacity (step {s} (goal p) h r) q ph re = absurd (omega (arith, stands-none (caseOf capacity s (goal p)) h .placed, ap (λ (x : State). x .phase) q))
-sound-steps capacity (step {s} (lin i p qs) h r) q ph re = absurd (omega (arith, stands-none (caseOf capacity s (lin i p qs)) h .placed, ap (λ (x : State). x .phase) q))
-sound-steps capacity (step {s} (del i) h r) q ph re = absurd (omega (arith, stands-none (caseOf capacity s (del i)) h .placed, ap (λ (x : State). x .phase) q))
-sound-steps capacity (step {s} (ext i v p) h r) q ph re = absurd (omega (arith, stands-none (caseOf capacity s (ext i v p)) h .placed, ap (λ (x : State). x .phase) q))
+pub sound-steps : (capacity : ℕ) {e : State} {sts : List Statement} → Opened capacity sts e → e .phase ≡ steps → e .reached ≡ true → Sound (ringIn sts) sts
+unfolding start ringIn
+sound-steps capacity nothing ph re = absurd (omega arith)
+sound-steps capacity (opening {sts} {e} k r) ph re = sound-ring k sts e (final k capacity r [] 0 [] (good-ring k)) ph re

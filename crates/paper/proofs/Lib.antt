@@ -2,3 +2,5 @@ pub mod Stands
 pub mod Steps
 pub mod Sound
 pub mod Accepted
+pub mod Store
+pub mod Counts

@@ -14,12 +14,13 @@ use Rattle.limits.specs.Verdicts.{LONGLINE, NOGOAL, NOTREACHED}
 use Rattle.paper.specs.Verdict.{first}
 use Rattle.paper.specs.Text.{Line}
 use Rattle.paper.specs.Reader.{Read, got, stuck}
-use Rattle.paper.specs.Statement.{Statement}
+use Rattle.paper.specs.Statement.{Statement, ring, input, goal, lin, del, ext}
 use Rattle.paper.specs.Grammar.{statement}
-use Rattle.paper.specs.State.{steps, storedTerms, State}
-use Rattle.paper.specs.Rules.{Case, rules, after}
+use Rattle.paper.specs.State.{steps, storedTerms, State, start}
+use Rattle.paper.specs.Rules.{place, Case, rules, after}
 use Rattle.paper.specs.Answer.{Answer, Outcome, stands, refused, indexOf, judge, judgeRead, judgeLine, report, ending, proceed, run}
 use Rattle.paper.specs.Says.{ifRead, ifStands, acceptedFrom}
+use Rattle.paper.proofs.Stands.{stands-none}
 
 positive : (n : ℕ) → (n ≡ 0 → ⊥) → 0 < n
 positive n h = omega (arith, h)
@@ -132,3 +133,23 @@ module _ (capacity : ℕ) where
   unfolding run acceptedFrom gather
   ran s n [] = ended s n
   ran s n (l ∷ ls) = onward s (suc n) ls (λ s′. ran s′ (suc n) ls) (statement l) (judgeLine capacity s l) (judged s l)
+
+  -- ---- from the start: nothing stands, or a ring line first
+  pub data Opened : List Statement → State → Type 0 where
+    nothing : Opened [] start
+    opening : {sts : List Statement} {e : State} (k : ℕ) → Steps (after start (ring k)) sts e → Opened (ring k ∷ sts) e
+
+  first-ring : (st : Statement) {sts : List Statement} {e : State} → place st ≡ 0 → Steps (after start st) sts e → Opened (st ∷ sts) e
+  unfolding place
+  first-ring (ring k) h r = opening k r
+  first-ring (input i p) h r = absurd (omega arith)
+  first-ring (goal p) h r = absurd (omega arith)
+  first-ring (lin i p qs) h r = absurd (omega arith)
+  first-ring (del i) h r = absurd (omega arith)
+  first-ring (ext i v p) h r = absurd (omega arith)
+
+  pub opened : {s e : State} {sts : List Statement} → Steps s sts e → s ≡ start → Opened sts e
+  unfolding start
+  opened done q = subst (λ (x : State). Opened [] x) (sym q) nothing
+  opened (step {s} {e} {sts} st h r) q =
+      first-ring st (stands-none (caseOf s st) h .placed ∙ ap (λ (x : State). x .phase) q) (subst (λ (x : State). Steps (after x st) sts e) q r)
