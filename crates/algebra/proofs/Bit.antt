@@ -1,6 +1,6 @@
 -- The test of equality, values that hang on the variables only, and polynomials that are 0 or 1 everywhere. Assumes nothing.
 use mathlib.Core.Path.{_≡_, refl, sym, ap, ap₂, _∙_}
-use mathlib.Core.Bool.{Bool, true, false, _&&_}
+use mathlib.Core.Bool.{Bool, true, _&&_}
 use mathlib.Core.Logic.{_⊎_, ⊎-elim}
 use mathlib.Core.List.{[], _∷_}
 use Prim.Native.Nat.{ℕ, zero, suc, _+_, _-_, _%_, _^_, _<_}
@@ -13,9 +13,9 @@ use Rattle.ground.specs.Congruence.{Same}
 use Rattle.ground.proofs.Tests.{and-left, and-right, and-both}
 use Rattle.ground.proofs.Congruence.{same-mod, same-add, same-refl, same-eq, same-sym, _⊳_}
 use Rattle.ground.proofs.Square.{bit-square}
-use Rattle.algebra.specs.Sets.{bit, AgreeOn}
+use Rattle.algebra.specs.Sets.{bit}
 use Rattle.algebra.specs.Polynomial.{Poly, keep, sumAt, value, vars, equal, product, extension}
-use Rattle.algebra.proofs.Sets.{bit-lt, holds-pow, holds-agree, agree-left, agree-right}
+use Rattle.algebra.proofs.Sets.{AgreeOn, bit-lt, holds-pow, holds-agree, agree-left, agree-right}
 use Rattle.algebra.proofs.Values.{value-reduce, value-mul}
 
 pub equal-true : (p q : Poly) → equal p q ≡ true → p ≡ q

@@ -1,8 +1,8 @@
 -- The digits of a set, when a set holds at an assignment, and one variable changed. Assumes nothing.
 use mathlib.Core.Path.{_≡_, refl, sym, ap, _∙_, subst}
-use mathlib.Core.Bool.{Bool, true, false, _&&_}
+use mathlib.Core.Bool.{true, false, _&&_}
 use mathlib.Core.Logic.{⊎-elim}
-use Prim.Native.Nat.{ℕ, zero, suc, _+_, _-_, _*_, _/_, _%_, _^_, _≤_, _<_, min, max}
+use Prim.Native.Nat.{ℕ, zero, suc, _-_, _/_, _%_, _^_, _≤_, _<_, min, max}
 use native.Mathlib.Nat.{mod-lt, pow-suc, div-one, zero-div}
 use native.Mathlib.Numerals.{one-add}
 use native.Mathlib.Omega.{arith}
@@ -12,7 +12,7 @@ use lib.Pow.{shr-shr}
 use lib.Dec.{eqb}
 use borrow.Author.Tests.{eqb-true, eqb-false, eq-eqb, ne-eqb}
 use Rattle.ground.proofs.Tests.{split, bool-ext, and-left, and-right, and-both}
-use Rattle.algebra.specs.Sets.{bit, has, holds, AgreeOn, DifferOnlyAt, Apart}
+use Rattle.algebra.specs.Sets.{bit, has, holds, DifferOnlyAt, Apart}
 
 -- ---- digits
 pub bit-lt : (m v : ℕ) → bit m v < 2
@@ -125,6 +125,10 @@ change a v d h = ⊎-elim
       },
     ))
     (split (eqb (bit a v) d))
+
+-- a and b give the variables of m the same values
+pub record AgreeOn (m a b : ℕ) : Type 0 where
+  pub at : (v : ℕ) → bit m v ≡ 1 → bit a v ≡ bit b v
 
 pub agree-left : (s t : ℕ) {a b : ℕ} → AgreeOn (bitOr s t) a b → AgreeOn s a b
 agree-left s t h = record { at = λ w e. h .at w (omega (arith, bit-or s t w, bit-lt t w)) }

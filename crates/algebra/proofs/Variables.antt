@@ -1,11 +1,9 @@
 -- Reducing brings in no variable. Assumes nothing.
-use mathlib.Core.Path.{_≡_}
 use mathlib.Core.List.{[], _∷_}
 use Prim.Native.Nat.{ℕ, _+_, _%_, _^_, _≤_}
 use native.Mathlib.Omega.{arith}
 use lib.Bits.{bitOr}
 use lib.Dec.{eqb, ltb}
-use borrow.Author.Tests.{eqb-true}
 use Rattle.ground.proofs.Tests.{by-cond}
 use Rattle.algebra.specs.Sets.{bit}
 use Rattle.algebra.specs.Polynomial.{Poly, vars, put, insert, reduce, extension, minusOne}

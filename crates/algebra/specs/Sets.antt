@@ -25,10 +25,6 @@ members (suc n) v m =
 unfoldable pub holds : ℕ → ℕ → Bool
 holds m a = eqb (bitAnd m a) m
 
--- a and b give the variables of m the same values
-pub record AgreeOn (m a b : ℕ) : Type 0 where
-  pub at : (v : ℕ) → bit m v ≡ 1 → bit a v ≡ bit b v
-
 -- a and b differ at variables of m only
 pub record DifferOnlyAt (m a b : ℕ) : Type 0 where
   pub at : (v : ℕ) → bit m v ≡ 0 → bit a v ≡ bit b v

@@ -1,7 +1,7 @@
 -- Equality modulo M goes with sums and products, and can be cancelled. Assumes nothing.
-use mathlib.Core.Path.{_≡_, refl, sym, ap, ap₂, _∙_, subst}
-use Prim.Native.Nat.{ℕ, zero, suc, _+_, _-_, _*_, _/_, _%_, _^_, _≤_, _<_}
-use native.Mathlib.Nat.{add-mod, mod-mod, mod-lt, mod-eq-of-lt, mul-assoc, mul-comm, div-add-mod', mul-add-mod-self-right, add-mul, one-mul}
+use mathlib.Core.Path.{_≡_, refl, sym, ap, ap₂, _∙_}
+use Prim.Native.Nat.{ℕ, _+_, _-_, _*_, _/_, _%_, _<_}
+use native.Mathlib.Nat.{add-mod, mod-mod, mod-lt, mod-eq-of-lt, mul-assoc, mul-comm, div-add-mod', mul-add-mod-self-right, add-mul}
 use native.Mathlib.Omega.{arith}
 use Rattle.ground.specs.Congruence.{Same}
 

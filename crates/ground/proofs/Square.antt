@@ -1,8 +1,8 @@
 -- Modulo 2 ^ k a number that is its own square is 0 or 1. Assumes nothing.
-use mathlib.Core.Path.{_≡_, refl, sym, ap, ap₂, _∙_, subst}
+use mathlib.Core.Path.{_≡_, sym, ap, ap₂, _∙_}
 use mathlib.Core.Logic.{_⊎_, inl, inr, ⊎-elim}
-use Prim.Native.Nat.{ℕ, zero, suc, _+_, _-_, _*_, _/_, _%_, _^_, _≤_, _<_}
-use native.Mathlib.Nat.{mod-lt, mod-mod, zero-mod, zero-add, add-zero, div-add-mod', pow-suc, mul-mod-left, mul-assoc, mul-comm, mul-left-comm, mul-add, add-mul, mul-one, one-mul}
+use Prim.Native.Nat.{ℕ, zero, suc, _+_, _-_, _*_, _/_, _%_, _^_, _≤_}
+use native.Mathlib.Nat.{zero-mod, add-zero, div-add-mod', pow-suc, mul-mod-left, mul-assoc, mul-comm, mul-left-comm, mul-add, add-mul}
 use native.Mathlib.Numerals.{one-add}
 use native.Mathlib.Omega.{arith}
 use lib.Pow.{pow-pos, mod-mod-pow}
@@ -12,7 +12,7 @@ use lib.Dec.{eqb}
 use borrow.Author.Tests.{eqb-true, eqb-false}
 use Rattle.ground.specs.Congruence.{Same}
 use Rattle.ground.proofs.Tests.{split}
-use Rattle.ground.proofs.Congruence.{same-mod, same-add, same-mul, same-cancel, same-refl, same-eq, same-sym, same-lt, _⊳_}
+use Rattle.ground.proofs.Congruence.{same-add, same-cancel, same-refl, same-eq, same-sym, _⊳_}
 
 -- equal modulo 2 ^ suc k, so modulo 2 ^ k
 pub same-down : (k : ℕ) {x y : ℕ} → Same (2 ^ suc k) x y → Same (2 ^ k) x y

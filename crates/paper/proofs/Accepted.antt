@@ -1,24 +1,22 @@
 -- A text whose statements all stand and reach the goal: its inputs force its goal, and definitions can be met. Assumes nothing.
-use mathlib.Core.Path.{_≡_, refl, sym, ap, _∙_, subst}
+use mathlib.Core.Path.{_≡_, refl, sym, ap, _∙_}
 use mathlib.Core.Bool.{true, cond}
 use mathlib.Core.List.{List, [], _∷_}
-use Prim.Native.Nat.{ℕ, _<_, _≤_}
+use Prim.Native.Nat.{ℕ}
 use native.Mathlib.Omega.{arith}
-use lib.Bits.{bitOr}
 use lib.Dec.{eqb}
 use Rattle.ground.specs.Lists.{gather}
-use Rattle.algebra.specs.Sets.{bit, DifferOnlyAt, Apart}
-use Rattle.algebra.specs.Polynomial.{Poly, value, vars}
-use Rattle.algebra.specs.Derivation.{allVars, AllZero, Forced, none}
+use Rattle.algebra.specs.Polynomial.{value, vars}
+use Rattle.algebra.specs.Derivation.{allVars, AllZero, none}
 use Rattle.algebra.proofs.Sets.{bit-or, bit-of-zero}
 use Rattle.algebra.proofs.Bit.{value-none}
 use Rattle.algebra.proofs.Derivation.{Zeroed, derived-zero, derived-goal}
 use Rattle.paper.specs.Statement.{Statement, ring, fields}
-use Rattle.paper.specs.State.{modulo, steps, State, start}
+use Rattle.paper.specs.State.{steps, State, start}
 use Rattle.paper.specs.Rules.{defines, entries, makesSeen, after}
 use Rattle.paper.specs.Says.{ringIn, definedIn, inputsIn, goalIn, introducedIn}
 use Rattle.paper.proofs.Steps.{Opened, nothing, opening}
-use Rattle.paper.proofs.Sound.{Good, Final, final, aimOf}
+use Rattle.paper.proofs.Sound.{Good, Final, final}
 
 -- all of it at the ring k
 pub record Sound (k : ℕ) (sts : List Statement) : Type 0 where

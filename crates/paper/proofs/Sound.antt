@@ -1,9 +1,9 @@
 -- Statements that stand make a derivation: what they introduce is derived from the inputs, and a goal that is reached is forced. Assumes nothing.
 use mathlib.Core.Path.{_≡_, refl, sym, ap, _∙_, subst}
-use mathlib.Core.Bool.{Bool, true, false, _||_, not, cond}
+use mathlib.Core.Bool.{Bool, true, false, _||_, cond}
 use mathlib.Core.Logic.{⊎-elim}
 use mathlib.Core.List.{List, [], _∷_, _++_, map}
-use Prim.Native.Nat.{ℕ, _+_, _*_, _%_, _^_, _≤_, _<_}
+use Prim.Native.Nat.{ℕ, _+_, _^_, _≤_, _<_}
 use native.Mathlib.Nat.{zero-mod, mul-zero, le-trans}
 use native.Mathlib.Omega.{arith}
 use lib.Bits.{bitOr}
@@ -13,20 +13,19 @@ use Rattle.ground.specs.Congruence.{Same}
 use Rattle.ground.specs.Lists.{any, gather}
 use Rattle.ground.proofs.Tests.{split, by-cond, or-cases}
 use Rattle.ground.proofs.Congruence.{same-add, same-mul, same-refl, same-eq, _⊳_}
-use Rattle.algebra.specs.Sets.{bit, has, Apart}
+use Rattle.algebra.specs.Sets.{bit, Apart}
 use Rattle.algebra.specs.Polynomial.{Poly, sumAt, value, vars, equal, products, reduce, product, extension}
-use Rattle.algebra.specs.Derivation.{allVars, AllZero, Forced, Derived, none, input as inputOf, forced, defined}
-use Rattle.algebra.proofs.Sets.{bit-or, bit-lt, bit-of-zero, bit-pow, bit-pow-other, has-false, has-none}
+use Rattle.algebra.specs.Derivation.{allVars, AllZero, Forced, Derived, input as inputOf, forced, defined}
+use Rattle.algebra.proofs.Sets.{bit-or, bit-lt, bit-of-zero, bit-pow-other, has-false, has-none}
 use Rattle.algebra.proofs.Values.{value-reduce, sumAt-append, sumAt-mul}
 use Rattle.algebra.proofs.Bit.{equal-true, value-none}
 use Rattle.algebra.proofs.Variables.{vars-extension}
-use Rattle.algebra.proofs.Derivation.{zero-left, zero-right, zero-both, Zeroed, derived-zero, derived-goal}
-use Rattle.paper.specs.Verdict.{first}
+use Rattle.algebra.proofs.Derivation.{zero-left, zero-right, zero-both}
 use Rattle.paper.specs.Statement.{Written, Pair, Statement, ring, input, goal, lin, del, ext, onInput, onExt, fields}
 use Rattle.paper.specs.Meaning.{reduced}
-use Rattle.paper.specs.State.{Ring, modulo, bits, opening, inputs, steps, Entry, Store, find, remove, State}
-use Rattle.paper.specs.Rules.{place, defines, entries, makesSeen, combination, isBit, Case, rules, holdsGoal, after}
-use Rattle.paper.specs.Says.{inputsIn, goalIn, introducedIn, definedIn, ringIn}
+use Rattle.paper.specs.State.{modulo, inputs, steps, Store, find, remove, State}
+use Rattle.paper.specs.Rules.{place, defines, entries, makesSeen, combination, clashes, differs, noBit, holdsGoal, after}
+use Rattle.paper.specs.Says.{inputsIn, goalIn, introducedIn, definedIn}
 use Rattle.paper.proofs.Stands.{Stands, stands-none}
 use Rattle.paper.proofs.Steps.{Steps, done, step, caseOf}
 
@@ -172,12 +171,12 @@ module _ (k : ℕ) where
           (or-cases (s .reached) (holdsGoal (s .goal) (record { index = i; poly = p } ∷ [])) e)
 
       next-lin : (i : ℕ) (p : Written) (qs : List Pair) → s .phase ≡ steps
-          → equal (reduced k p) (reduce k (combination k (find (s .store)) qs)) ≡ true → Next (lin i p qs) is es ps
-      unfolding after entries makesSeen defines fields
+          → differs k (find (s .store)) (lin i p qs) ≡ false → Next (lin i p qs) is es ps
+      unfolding after entries makesSeen defines fields differs
       next-lin i p qs ph e = record {
         ringed = refl;
         begun = g .begun;
-        derived = forced (reduced k p) (record { at = λ b z. zero-stated b (reduced k p) qs (s .store) (g .kept b z) e }) (g .derived);
+        derived = forced (reduced k p) (record { at = λ b z. zero-stated b (reduced k p) qs (s .store) (g .kept b z) (not-false _ e) }) (g .derived);
         kept = λ b z. zero-append b (s .store) _ (g .kept b (z .1)) (z .0, tt);
         witnessed = λ v. all-in (reduced k p) ps _ v (seen-first 0 (reduced k p) _ (s .seen) v) (le-trans (g .witnessed v) (old (lin i p qs) v));
         early = g .early;
@@ -200,13 +199,13 @@ module _ (k : ℕ) where
         hit = λ e. g .hit (none-more (s .reached) e);
       }
 
-      next-ext : (i v : ℕ) (p : Written) → s .phase ≡ steps → has (bitOr (vars (reduced k p)) (s .seen)) v ≡ false → isBit k p ≡ true
+      next-ext : (i v : ℕ) (p : Written) → s .phase ≡ steps → clashes k (s .seen) (ext i v p) ≡ false → noBit k (ext i v p) ≡ false
           → Next (ext i v p) is es ps
-      unfolding after entries makesSeen defines fields isBit
+      unfolding after entries makesSeen defines fields clashes noBit
       next-ext i v p ph unseen square = record {
         ringed = refl;
         begun = g .begun;
-        derived = defined v r (equal-true (product k r r) r square) (has-none (bitOr (vars r) (allVars ps)) v fresh) (g .derived);
+        derived = defined v r (equal-true (product k r r) r (not-false _ square)) (has-none (bitOr (vars r) (allVars ps)) v fresh) (g .derived);
         kept = λ b z. zero-append b (s .store) _ (g .kept b (z .1)) (z .0, tt);
         witnessed = λ w. all-in (extension k v r) ps _ w
             (omega (arith, vars-extension k w v r, bit-or (2 ^ v) (vars r) w, seen-own (2 ^ v) (allVars (r ∷ [])) (s .seen) w, seen-first (2 ^ v) r [] (s .seen) w))
@@ -234,9 +233,9 @@ module _ (k : ℕ) where
       next (ring j) h = absurd (omega (arith, h .placed, g .begun))
       next (input i p) h = next-input i p (sym (h .placed))
       next (goal p) h = next-goal p (sym (h .placed))
-      next (lin i p qs) h = next-lin i p qs (sym (h .placed)) (not-false _ (h .summed))
+      next (lin i p qs) h = next-lin i p qs (sym (h .placed)) (h .summed)
       next (del i) h = next-del i
-      next (ext i v p) h = next-ext i v p (sym (h .placed)) (h .unseen) (not-false _ (h .square))
+      next (ext i v p) h = next-ext i v p (sym (h .placed)) (h .unseen) (h .square)
 
       aim-next : (st : Statement) (sts : List Statement) → Stands (caseOf capacity here st) → aimOf k (after here st) sts ≡ aimOf k here (st ∷ sts)
       unfolding after goalIn place

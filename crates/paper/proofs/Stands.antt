@@ -1,22 +1,19 @@
 -- A statement stands exactly where no row refuses it, and what the rows say of one that does. Assumes nothing.
 use mathlib.Core.Path.{_≡_, refl}
-use mathlib.Core.Bool.{Bool, true, false, not, cond}
+use mathlib.Core.Bool.{Bool, true, false, cond}
 use mathlib.Core.List.{List, [], _∷_}
 use Prim.Native.Nat.{ℕ, _≤_, _<_}
 use native.Mathlib.Omega.{arith}
-use lib.Bits.{bitOr}
 use lib.Dec.{eqb, ltb}
 use borrow.Author.Tests.{ltb-true, ltb-false, eqb-true, not-false}
 use Rattle.ground.specs.Lists.{every, any}
 use Rattle.ground.proofs.Tests.{and-left, and-right}
 use Rattle.limits.specs.Limits.{lineProducts}
-use Rattle.algebra.specs.Sets.{has}
-use Rattle.algebra.specs.Polynomial.{vars, equal, reduce}
-use Rattle.paper.specs.Verdict.{Row, row, first}
-use Rattle.paper.specs.Statement.{Statement, onLin, onExt, newIndex, namedIndices, fields}
-use Rattle.paper.specs.Meaning.{numbersInRange, tooManyTerms, reduced}
-use Rattle.paper.specs.State.{stored, find, State}
-use Rattle.paper.specs.Rules.{place, entries, combination, productCount, isBit, overfull, Case, ringOf, rules}
+use Rattle.paper.specs.Verdict.{Row, first}
+use Rattle.paper.specs.Statement.{newIndex, namedIndices, fields}
+use Rattle.paper.specs.Meaning.{numbersInRange, tooManyTerms}
+use Rattle.paper.specs.State.{stored, find}
+use Rattle.paper.specs.Rules.{place, entries, productCount, clashes, differs, noBit, overfull, Case, ringOf, rules}
 
 -- ---- any table
 past : (b : Bool) (v w : ℕ) → 0 < v → cond b v w ≡ 0 → (b ≡ false) × (w ≡ 0)
@@ -43,10 +40,10 @@ pub record Stands (c : Case) : Type 0 where
   pub placed : place (c .statement) ≡ c .state .phase
   pub free : any (stored (c .state .store)) (newIndex (c .statement)) ≡ false
   pub present : every (stored (c .state .store)) (namedIndices (c .statement)) ≡ true
-  pub unseen : onExt false (λ i v p. has (bitOr (vars (reduced (ringOf c) p)) (c .state .seen)) v) (c .statement) ≡ false
+  pub unseen : clashes (ringOf c) (c .state .seen) (c .statement) ≡ false
   pub few : productCount (ringOf c) (find (c .state .store)) (c .statement) ≤ lineProducts
-  pub summed : onLin false (λ i p qs. not (equal (reduced (ringOf c) p) (reduce (ringOf c) (combination (ringOf c) (find (c .state .store)) qs)))) (c .statement) ≡ false
-  pub square : onExt false (λ i v p. not (isBit (ringOf c) p)) (c .statement) ≡ false
+  pub summed : differs (ringOf c) (find (c .state .store)) (c .statement) ≡ false
+  pub square : noBit (ringOf c) (c .statement) ≡ false
   pub fits : overfull (c .capacity) (c .state .store) (entries (ringOf c) (c .statement)) ≡ false
 
 pub stands-none : (c : Case) → first rules c ≡ 0 → Stands c

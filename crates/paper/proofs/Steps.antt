@@ -1,10 +1,10 @@
 -- A run is a row of statements that stand, and a last word. Assumes nothing.
 use mathlib.Core.Path.{_≡_, refl, sym, ap, _∙_, subst}
-use mathlib.Core.Bool.{Bool, true, false, cond}
+use mathlib.Core.Bool.{true}
 use mathlib.Core.List.{List, [], _∷_, _++_, reverseAux}
 use Prim.Native.Nat.{ℕ, suc, _<_}
 use native.Mathlib.Omega.{arith}
-use lib.Dec.{eqb, leb, ltb}
+use lib.Dec.{eqb, ltb}
 use lib.ListN.{length}
 use borrow.Author.Tests.{eqb-true, eqb-false}
 use Rattle.ground.specs.Lists.{gather}
@@ -18,7 +18,7 @@ use Rattle.paper.specs.Statement.{Statement, ring, input, goal, lin, del
 use Rattle.paper.specs.Grammar.{statement}
 use Rattle.paper.specs.State.{steps, storedTerms, State, start}
 use Rattle.paper.specs.Rules.{place, Case, rules, after}
-use Rattle.paper.specs.Answer.{Answer, Outcome, stands, refused, indexOf, judge, judgeRead, judgeLine, report, ending, proceed, run}
+use Rattle.paper.specs.Answer.{Answer, Outcome, stands, refused, judge, judgeRead, judgeLine, report, ending, proceed, run}
 use Rattle.paper.specs.Says.{ifRead, ifStands, acceptedFrom}
 use Rattle.paper.proofs.Stands.{stands-none}
 

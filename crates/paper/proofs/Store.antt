@@ -1,16 +1,15 @@
 -- The store as a table: look-ups after adding and removing an entry. Assumes nothing.
 use mathlib.Core.Path.{_≡_, refl, sym, ap, _∙_, subst}
 use mathlib.Core.Bool.{Bool, true, false, _||_, cond, or-assoc}
-use mathlib.Core.Logic.{⊎-elim}
-use mathlib.Core.List.{List, [], _∷_, _++_}
+use mathlib.Core.List.{[], _∷_, _++_}
 use Prim.Native.Nat.{ℕ, suc, _+_}
-use native.Mathlib.Nat.{add-zero, zero-add}
+use native.Mathlib.Nat.{zero-add}
 use native.Mathlib.Omega.{arith}
 use lib.Dec.{eqb}
-use lib.ListN.{length, length-append}
-use borrow.Author.Tests.{eqb-true, eqb-false, eq-eqb, ne-eqb}
+use lib.ListN.{length}
+use borrow.Author.Tests.{eqb-true, eqb-false}
 use Rattle.ground.specs.Lists.{any, total}
-use Rattle.ground.proofs.Tests.{split, by-cond, bool-ext, or-cases, or-none-left, or-none-right}
+use Rattle.ground.proofs.Tests.{by-cond, or-none-left, or-none-right}
 use Rattle.algebra.specs.Polynomial.{Poly}
 use Rattle.paper.specs.State.{Entry, Store, stored, find, remove, storedTerms}
 

@@ -6,7 +6,7 @@ use Prim.Native.Char.{code}
 use Prim.Native.String.{String}
 use lib.Dec.{eqb, leb}
 use Rattle.paper.specs.Text.{Bytes, bytes, Line}
-use Rattle.paper.specs.Reader.{Read, got, stuck, Reader, next, _>>=_, _>>_, give, literal, end, each}
+use Rattle.paper.specs.Reader.{Read, got, stuck, Reader, _>>=_, _>>_, give, literal, end, each}
 use Rattle.paper.specs.Statement.{WrittenTerm, Written, Pair, Statement, ring, input, goal, lin, del, ext}
 
 -- ---- decimals: no leading zero

@@ -12,9 +12,9 @@ use Rattle.algebra.specs.Polynomial.{Poly, vars, equal, products, reduce, produ
 use Rattle.algebra.specs.Derivation.{allVars}
 use Rattle.limits.specs.Verdicts.{NUMBER, TERMS, ORDER, TAKEN, MISSING, SEEN, PRODUCTS, MISMATCH, NOTBIT, FULL}
 use Rattle.paper.specs.Verdict.{Row, row}
-use Rattle.paper.specs.Statement.{Written, Pair, Statement, cases, onRing, onInput, onGoal, onLin, onDel, onExt, newIndex, namedIndices, fields}
+use Rattle.paper.specs.Statement.{Pair, Statement, cases, onRing, onInput, onGoal, onLin, onDel, onExt, newIndex, namedIndices, fields}
 use Rattle.paper.specs.Meaning.{numbersInRange, tooManyTerms, reduced}
-use Rattle.paper.specs.State.{modulo, bits, opening, inputs, steps, Entry, Store, stored, find, remove, storedTerms, State}
+use Rattle.paper.specs.State.{modulo, bits, opening, inputs, steps, Store, stored, find, remove, storedTerms, State}
 
 -- where a statement may stand
 unfoldable pub place : Statement → ℕ
@@ -46,8 +46,17 @@ module _ (k : ℕ) where
       onLin 0 (λ i p qs. total (λ q. length (reduced k (q .factor)) * length (named (q .index))) qs) st
       + onExt 0 (λ i v p. length (reduced k p) * length (reduced k p)) st
 
-  unfoldable pub isBit : Written → Bool
-  isBit p = equal (product k (reduced k p) (reduced k p)) (reduced k p)
+  -- an ext line whose v is seen or stands in p
+  unfoldable pub clashes : ℕ → Statement → Bool
+  clashes seen = onExt false (λ i v p. has (bitOr (vars (reduced k p)) seen) v)
+
+  -- a lin line whose stated polynomial is not the sum
+  unfoldable pub differs : (ℕ → Poly) → Statement → Bool
+  differs named = onLin false (λ i p qs. not (equal (reduced k p) (reduce k (combination named qs))))
+
+  -- an ext line whose p is no bit
+  unfoldable pub noBit : Statement → Bool
+  noBit = onExt false (λ i v p. not (equal (product k (reduced k p) (reduced k p)) (reduced k p)))
 
 -- no room for the entries beside the store in a pool of so many terms
 unfoldable pub overfull : ℕ → Store → Store → Bool
@@ -69,10 +78,10 @@ rules =
     ∷ row ORDER (λ c. not (eqb (place (c .statement)) (c .state .phase)))
     ∷ row TAKEN (λ c. any (stored (c .state .store)) (newIndex (c .statement)))
     ∷ row MISSING (λ c. not (every (stored (c .state .store)) (namedIndices (c .statement))))
-    ∷ row SEEN (λ c. onExt false (λ i v p. has (bitOr (vars (reduced (ringOf c) p)) (c .state .seen)) v) (c .statement))
+    ∷ row SEEN (λ c. clashes (ringOf c) (c .state .seen) (c .statement))
     ∷ row PRODUCTS (λ c. ltb lineProducts (productCount (ringOf c) (find (c .state .store)) (c .statement)))
-    ∷ row MISMATCH (λ c. onLin false (λ i p qs. not (equal (reduced (ringOf c) p) (reduce (ringOf c) (combination (ringOf c) (find (c .state .store)) qs)))) (c .statement))
-    ∷ row NOTBIT (λ c. onExt false (λ i v p. not (isBit (ringOf c) p)) (c .statement))
+    ∷ row MISMATCH (λ c. differs (ringOf c) (find (c .state .store)) (c .statement))
+    ∷ row NOTBIT (λ c. noBit (ringOf c) (c .statement))
     ∷ row FULL (λ c. overfull (c .capacity) (c .state .store) (entries (ringOf c) (c .statement)))
     ∷ []
 

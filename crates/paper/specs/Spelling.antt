@@ -12,7 +12,7 @@ use Rattle.algebra.specs.Polynomial.{Term, Poly}
 use Rattle.limits.specs.Verdicts.{ACCEPTED, SHORT, LONGLINE, FORM, NUMBER, TERMS, FULL}
 use Rattle.paper.specs.Verdict.{Row, row, first}
 use Rattle.paper.specs.Text.{Bytes, bytes}
-use Rattle.paper.specs.Reader.{Read, got, stuck, Reader, next, _>>=_, _>>_, give, end}
+use Rattle.paper.specs.Reader.{Read, got, stuck, Reader, _>>=_, _>>_, give, end}
 use Rattle.paper.specs.Statement.{Written}
 use Rattle.paper.specs.Grammar.{polynomial}
 use Rattle.paper.specs.Meaning.{isRing, inRange, tooManyTerms, reduced}

@@ -1,20 +1,18 @@
 -- The promises, each by the law behind it. Assumes nothing.
-use mathlib.Core.Path.{_≡_, refl, sym, ap, _∙_, subst}
-use mathlib.Core.Bool.{_||_, cond}
+use mathlib.Core.Path.{_≡_, refl, sym, _∙_, subst}
+use mathlib.Core.Bool.{_||_}
 use mathlib.Core.Logic.{inl, inr, ⊎-elim}
-use mathlib.Core.List.{List, [], reverseAux}
-use Prim.Native.Nat.{ℕ, zero, suc, _+_, _^_, _<_}
+use mathlib.Core.List.{List, []}
+use Prim.Native.Nat.{ℕ, zero, suc, _^_, _<_}
 use native.Mathlib.Nat.{pow-suc}
 use native.Mathlib.Omega.{arith}
 use lib.Pow.{pow-pos}
 use lib.Dec.{ltb}
 use lib.ListN.{length}
-use Rattle.ground.specs.Congruence.{Same}
 use Rattle.ground.proofs.Tests.{by-cond}
 use Rattle.ground.proofs.Congruence.{same-lt}
 use Rattle.limits.specs.Limits.{textBytes, leastPool, leastScratch}
 use Rattle.limits.specs.Verdicts.{SHORT, LONGTEXT}
-use Rattle.algebra.specs.Polynomial.{Poly, value}
 use Rattle.algebra.proofs.Values.{value-add, value-mul}
 use Rattle.algebra.proofs.Reduced.{is-reduce}
 use Rattle.algebra.proofs.OneForm.{one-form}
@@ -22,10 +20,10 @@ use Rattle.algebra.proofs.Bit.{bit-cases, value-lt}
 use Rattle.algebra.proofs.Derivation.{derived-zero, derived-goal}
 use Rattle.paper.specs.Text.{Bytes, lines}
 use Rattle.paper.specs.Statement.{Statement}
-use Rattle.paper.specs.State.{State, start}
+use Rattle.paper.specs.State.{start}
 use Rattle.paper.specs.Answer.{Answer, run, capacityOf, unread, answer}
-use Rattle.paper.specs.Says.{statements, ringIn, acceptedFrom, accepted}
-use Rattle.paper.proofs.Steps.{Ran, ran, opened}
+use Rattle.paper.specs.Says.{statements, ringIn, accepted}
+use Rattle.paper.proofs.Steps.{ran, opened}
 use Rattle.paper.proofs.Accepted.{sound-steps}
 use Rattle.paper.proofs.Counts.{counted-steps}
 use Rattle.promises.specs.Promises.{SumOfValues, ProductOfValues, OneForm, OneList, BitEverywhere, DerivedForces, DefinitionsCanBeMet, Sound, AcceptedIsSound, Counted, CountsAreSums}
