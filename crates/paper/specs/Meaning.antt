@@ -42,8 +42,8 @@ setOf [] = 0
 setOf (v ∷ vs) = bitOr (2 ^ v) (setOf vs)
 
 module _ (k : ℕ) where
-  unfoldable pub termOf : WrittenTerm → Term
-  termOf t = record { set = setOf (t .variables); coef = cond (t .negative) (minusOne k * t .magnitude) (t .magnitude) }
+  unfoldable pub asTerm : WrittenTerm → Term
+  asTerm t = record { set = setOf (t .variables); coef = cond (t .negative) (minusOne k * t .magnitude) (t .magnitude) }
 
   unfoldable pub reduced : Written → Poly
-  reduced p = reduce k (map termOf p)
+  reduced p = reduce k (map asTerm p)
