@@ -4,3 +4,4 @@ pub mod Sound
 pub mod Accepted
 pub mod Store
 pub mod Counts
+pub mod Judging

@@ -2,9 +2,10 @@
 use mathlib.Core.Path.{_≡_, refl}
 use mathlib.Core.Bool.{Bool, true, false, cond}
 use mathlib.Core.List.{List, [], _∷_}
-use Prim.Native.Nat.{ℕ, _≤_, _<_}
+use Prim.Native.Nat.{ℕ, zero, suc, _≤_, _<_}
 use native.Mathlib.Omega.{arith}
 use lib.Dec.{eqb, ltb}
+use lib.ListN.{length, take, getD}
 use borrow.Author.Tests.{ltb-true, ltb-false, eqb-true, not-false}
 use Rattle.ground.specs.Lists.{every, any}
 use Rattle.ground.proofs.Tests.{and-left, and-right}
@@ -32,6 +33,19 @@ module _ {A : Type 0} where
       let p : (r .refuses x ≡ false) × (first rs x ≡ 0) =
       past (r .refuses x) (r .verdict) (first rs x) (ltb-true 0 (r .verdict) (and-left (ltb 0 (r .verdict)) (every (λ r. ltb 0 (r .verdict)) rs) h)) e in
       (p .0, none-refuses rs x (and-right (ltb 0 (r .verdict)) (every (λ r. ltb 0 (r .verdict)) rs) h) (p .1))
+
+  pub first-none : (rs : List (Row A)) (x : A) → NoneRefuses rs x → first rs x ≡ 0
+  unfolding first
+  first-none [] x h = refl
+  first-none (r ∷ rs) x h = rw (h .0) (first-none rs x (h .1))
+
+  -- the row behind n that do not refuse
+  pub first-at : (n : ℕ) (rs : List (Row A)) (x : A) (d : Row A) → n < length rs → NoneRefuses (take n rs) x → getD rs n d .refuses x ≡ true
+      → first rs x ≡ getD rs n d .verdict
+  unfolding first
+  first-at n [] x d l h e = absurd (omega arith)
+  first-at zero (r ∷ rs) x d l h e = rw e refl
+  first-at (suc n) (r ∷ rs) x d l h e = rw (h .0) (first-at n rs x d (omega arith) (h .1) e)
 
 -- ---- the table of statements
 pub record Stands (c : Case) : Type 0 where
