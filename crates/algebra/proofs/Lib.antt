@@ -4,3 +4,4 @@ pub mod Reduced
 pub mod OneForm
 pub mod Bit
 pub mod Derivation
+pub mod Sums

@@ -1,1 +1,2 @@
 pub mod Congruence
+pub mod Parts
