@@ -1,0 +1,3 @@
+pub mod Wrap
+pub mod Laws
+pub mod WordByWord
