@@ -5,3 +5,4 @@ pub mod OneForm
 pub mod Bit
 pub mod Derivation
 pub mod Sums
+pub mod Unions

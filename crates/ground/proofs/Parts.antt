@@ -1,11 +1,12 @@
 -- Regions of a list: what a change within one leaves as it was, and what a copy into one does. Assumes nothing.
 use mathlib.Core.Path.{_≡_, refl, sym, ap, _∙_}
-use mathlib.Core.List.{List, [], _∷_, _++_, append-assoc}
+use mathlib.Core.List.{List, [], _∷_, _++_, append-nil, append-assoc}
 use Prim.Native.Nat.{ℕ, zero, suc, _+_, _-_, _≤_, _<_}
 use native.Mathlib.Omega.{arith}
 use native.Mathlib.Nat.{suc-add}
-use lib.ListN.{length, take, drop, length-drop}
-use lib.Seq.{length-take-le, take-nil, take-at, drop-at, take-take, drop-drop, paste, length-paste, take-paste, drop-paste}
+use native.Mathlib.Numerals.{add-one}
+use lib.ListN.{length, take, drop, getD, set, length-drop, drop-of-length-le}
+use lib.Seq.{length-take-le, take-nil, take-at, drop-at, take-take, drop-drop, paste, paste-suc, length-paste, take-paste, drop-paste}
 use borrow.Rule.Slice.PartMut.{putMid, take-put, drop-put, same-len-mid, mid-len}
 use Rattle.ground.specs.Parts.{part, Within}
 
@@ -49,13 +50,30 @@ module _ (d : List ℕ) (at : ℕ) (s : List ℕ) (n : ℕ) (hd : at + n ≤ len
     before = sym (take-take at (at + n) (paste d at s n) (omega arith)) ∙ ap (take at) (take-paste d at s n (omega arith) hs)
         ∙ take-at (take at d) (take n s) at (length-take-le at d (omega arith));
     after = drop-paste d at s n (omega arith) hs;
-    same = length-paste d at s n hd hs }
+    same = length-paste d at s n hd hs;
+  }
 
   pub drop-to-paste : drop at (paste d at s n) ≡ take n s ++ drop (at + n) d
   drop-to-paste = rw (append-assoc (take at d) (take n s) (drop (at + n) d)) (drop-at (take at d) (take n s ++ drop (at + n) d) at (length-take-le at d (omega arith)))
 
   pub part-paste : part at n (paste d at s n) ≡ take n s
   part-paste = rw drop-to-paste (take-at (take n s) (drop (at + n) d) n (length-take-le n s hs))
+
+-- a turn of a loop that copies
+pub paste-more : (d : List ℕ) (at : ℕ) (s : List ℕ) (j : ℕ) → at + j < length d → j < length s
+    → set (paste d at s j) (at + j) (getD s j 0) ≡ paste d at s (j + 1)
+paste-more d at s j hd hs = rw (add-one) (paste-suc d at s j 0 hd hs)
+
+-- the same, to the front
+pub fill-more : (d s : List ℕ) (j : ℕ) → j < length d → j < length s → set (paste d 0 s j) j (getD s j 0) ≡ paste d 0 s (j + 1)
+fill-more d s j hd hs =
+    let e : j ≡ 0 + j = omega arith in
+    ap (λ (i : ℕ). set (paste d 0 s j) i (getD s j 0)) e ∙ paste-more d 0 s j (omega arith) hs
+
+pub fill-all : (d s : List ℕ) (n : ℕ) → length d ≡ n → paste d 0 s n ≡ take n s
+fill-all d s n h =
+    let e : 0 + n ≡ n = omega arith in
+    rw (e, drop-of-length-le d {i = n} (omega arith)) (append-nil (take n s))
 
 -- ---- a region that was lent
 module _ (s ys : List ℕ) (a e : ℕ) (h : a ≤ e) (l : e ≤ length s) (k : length ys ≡ length (part a (e - a) s)) where
@@ -71,4 +89,5 @@ module _ (s ys : List ℕ) (a e : ℕ) (h : a ≤ e) (l : e ≤ length s) (k : l
   put-within = record {
     before = take-put a (e - a) s ys (omega arith);
     after = drop-put a e s ys h l long;
-    same = same-len-mid a (e - a) s ys k }
+    same = same-len-mid a (e - a) s ys k;
+  }

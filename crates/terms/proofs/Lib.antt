@@ -1,0 +1,10 @@
+pub mod Decode
+pub mod SameTerms
+pub mod Heaps
+pub mod Sorting
+pub mod Settling
+pub mod Rounding
+pub mod Comparing
+pub mod Merging
+pub mod Products
+pub mod Runs
