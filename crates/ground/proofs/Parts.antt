@@ -6,7 +6,7 @@ use native.Mathlib.Omega.{arith}
 use native.Mathlib.Nat.{suc-add}
 use native.Mathlib.Numerals.{add-one}
 use lib.ListN.{length, take, drop, getD, set, length-drop, drop-of-length-le}
-use lib.Seq.{length-take-le, take-nil, take-at, drop-at, take-take, drop-drop, paste, paste-suc, length-paste, take-paste, drop-paste}
+use lib.Seq.{length-take-le, take-nil, take-all, take-at, drop-at, take-take, drop-drop, paste, paste-suc, length-paste, take-paste, drop-paste}
 use borrow.Rule.Slice.PartMut.{putMid, take-put, drop-put, same-len-mid, mid-len}
 use Rattle.ground.specs.Parts.{part, Within}
 
@@ -34,6 +34,10 @@ drop-take (suc k) m (x ∷ a) = rw (suc-add k m) (drop-take k m a)
 
 pub length-part : (a k : ℕ) (s : List ℕ) → a + k ≤ length s → length (part a k s) ≡ k
 length-part a k s h = length-take-le k (drop a s) (simp length-drop (omega arith))
+
+-- the region from a to the end
+pub part-rest : (a : ℕ) (s : List ℕ) → part a (length s - a) s ≡ drop a s
+part-rest a s = take-all (length s - a) (drop a s) (omega (arith, length-drop a s))
 
 -- a region that ends before the change, and one that starts after it, are as they were
 module _ (a e : ℕ) (s r : List ℕ) (w : Within a e s r) where

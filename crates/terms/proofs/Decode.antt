@@ -75,7 +75,11 @@ decode-same (suc n) s r e =
     ap₂ _∷_ (sym (term-part r) ∙ ap termOf (take-fewer termWords (suc n * termWords) s r (omega arith) e) ∙ term-part s)
     (decode-same n (drop termWords s) (drop termWords r) (sym (drop-take termWords (n * termWords) r) ∙ ap (drop termWords) f ∙ drop-take termWords (n * termWords) s))
 
--- n terms from the i-th on, beside a change elsewhere
+-- a run in a region that holds it
+pub decode-part : (n a k : ℕ) (s : List ℕ) → n * termWords ≤ k → decode n (part a k s) ≡ decode n (drop a s)
+decode-part n a k s h = decode-same n (drop a s) (part a k s) (take-take (n * termWords) k (drop a s) h)
+
+-- a run before a change elsewhere, and one beyond it
 pub decode-below : (n a e : ℕ) (s r : List ℕ) → Within a e s r → n * termWords ≤ a → decode n r ≡ decode n s
 decode-below n a e s r w h = decode-same n s r (take-fewer (n * termWords) a s r h (w .before))
 
