@@ -2,6 +2,7 @@ pub mod Decode
 pub mod SameTerms
 pub mod Heaps
 pub mod Sorting
+pub mod Sliding
 pub mod Settling
 pub mod Rounding
 pub mod Comparing
