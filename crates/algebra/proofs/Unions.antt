@@ -1,5 +1,5 @@
 -- The union of sets in any grouping, and the variables of two polynomials together. Assumes nothing.
-use mathlib.Core.Path.{_≡_, sym, ap, ap₂, _∙_}
+use mathlib.Core.Path.{_≡_, sym, ap, _∙_}
 use mathlib.Core.List.{[], _∷_, _++_}
 use Prim.Native.Nat.{ℕ, max}
 use native.Mathlib.Omega.{arith}

@@ -1,6 +1,5 @@
 // Reduces a run of terms and prints how many are left. Standard input says how many terms, at most 1,024, and their order:
 // r for random, s for sorted, v for reversed, e for all equal. It is there to be measured.
-ghost use mathlib.Core.Path.{_≡_};
 ghost use Prim.Native.Nat.{_*_, _≤_};
 ghost use lib.ListN.{length};
 ghost use Rattle.limits.specs.Limits.{termWords, lineProducts};

@@ -1,10 +1,10 @@
 -- Runs of terms: one by one, their beginnings and rests, and what a copy of words does to them. Assumes nothing.
 use mathlib.Core.Path.{_≡_, refl, sym, ap, ap₂, subst, _∙_}
-use mathlib.Core.List.{List, [], _∷_, _++_, append-nil}
+use mathlib.Core.List.{List, [], _∷_, _++_}
 use Prim.Native.Nat.{ℕ, zero, suc, _+_, _-_, _*_, _≤_, _<_}
 use native.Mathlib.Omega.{arith}
 use native.Mathlib.Nat.{suc-add, not-suc-le-zero, le-of-suc-le-suc}
-use lib.ListN.{length, take, drop, getD, set, length-drop, List·getD-append}
+use lib.ListN.{length, take, drop, getD, set}
 use lib.Seq.{take-take, take-at, drop-at, getD-take, getD-drop, drop-drop, take-all, paste, take-paste, drop-paste, set-split}
 use Rattle.ground.specs.Parts.{part, Within}
 use Rattle.ground.proofs.Parts.{take-fewer, drop-more, drop-take, below-kept, part-paste, paste-within}

@@ -2,20 +2,19 @@
 use mathlib.Core.Path.{_≡_, refl, sym, ap, ap₂, subst, _∙_}
 use mathlib.Core.Bool.{Bool, true, false}
 use mathlib.Core.List.{List, [], _∷_, _++_, append-nil, append-assoc}
-use Prim.Native.Nat.{ℕ, zero, suc, _+_, _-_, _*_, _%_, _^_, _≤_, _<_}
+use Prim.Native.Nat.{ℕ, _+_, _-_, _*_, _%_, _^_, _≤_, _<_}
 use native.Mathlib.Omega.{arith}
 use lib.Dec.{eqb}
-use lib.ListN.{length, getD, take, drop}
+use lib.ListN.{length, getD, take}
 use lib.Seq.{paste}
 use borrow.Author.Tests.{eq-eqb, ne-eqb}
-use Rattle.ground.specs.Parts.{part, Within}
+use Rattle.ground.specs.Parts.{part}
 use Rattle.ground.proofs.Parts.{within-refl, within-trans, within-wider, above-kept}
 use Rattle.limits.specs.Limits.{setWords, termWords}
 use Rattle.algebra.specs.Polynomial.{Term, Poly, put, reduce}
-use Rattle.words.specs.Words.{number}
 use Rattle.terms.specs.Terms.{termOf, decode}
 use Rattle.terms.specs.Order.{Falls, none}
-use Rattle.terms.specs.Steps.{Arranged, Sorted, settle, Leaves}
+use Rattle.terms.specs.Steps.{Sorted, settle, Leaves}
 use Rattle.terms.proofs.Decode.{decode-length, decode-at, decode-take, decode-last, behind-within, decode-behind}
 use Rattle.terms.proofs.Settling.{reduce-order, reduce-more, settle-last}
 use Rattle.terms.proofs.Rounding.{put-word}

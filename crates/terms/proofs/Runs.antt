@@ -1,18 +1,17 @@
 -- Two runs compared term by term, and the variables of a run gathered term by term. Assumes nothing.
 use mathlib.Core.Path.{_≡_, refl, sym, ap, ap₂, subst, _∙_}
 use mathlib.Core.Bool.{Bool, true, false, _&&_}
-use mathlib.Core.List.{List, [], _∷_, _++_}
-use Prim.Native.Nat.{ℕ, zero, suc, _+_, _-_, _*_, _≤_, _<_}
+use mathlib.Core.List.{List, [], _∷_}
+use Prim.Native.Nat.{ℕ, suc, _+_, _*_, _≤_, _<_}
 use native.Mathlib.Omega.{arith}
 use native.Mathlib.Numerals.{add-one}
 use lib.Bits.{bitOr, or-zero-r}
 use lib.Dec.{eqb}
 use lib.ListN.{length, getD, drop, drop-of-length-le}
 use lib.Seq.{drop-cons}
-use borrow.Author.Tests.{ne-eqb}
 use Rattle.ground.specs.Parts.{part}
 use Rattle.limits.specs.Limits.{setWords, termWords}
-use Rattle.algebra.specs.Polynomial.{Term, Poly, equal, vars}
+use Rattle.algebra.specs.Polynomial.{Poly, equal, vars}
 use Rattle.algebra.proofs.Unions.{vars-append}
 use Rattle.terms.specs.Terms.{termOf, decode}
 use Rattle.terms.specs.Order.{none}

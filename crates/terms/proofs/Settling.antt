@@ -1,8 +1,7 @@
 -- A run in falling order, reduced term by term: each term is added behind those before it. Assumes nothing.
-use mathlib.Core.Path.{_≡_, refl, sym, ap, ap₂, subst, _∙_}
-use mathlib.Core.Bool.{Bool, true, false, cond}
-use mathlib.Core.List.{List, [], _∷_, _++_}
-use Prim.Native.Nat.{ℕ, zero, suc, _+_, _-_, _*_, _%_, _^_, _≤_, _<_}
+use mathlib.Core.Path.{_≡_, refl, sym, ap, _∙_}
+use mathlib.Core.List.{[], _∷_, _++_}
+use Prim.Native.Nat.{ℕ, suc, _+_, _%_, _^_, _≤_, _<_}
 use native.Mathlib.Omega.{arith}
 use lib.Dec.{eqb, ltb}
 use lib.ListN.{length, getD, take}
@@ -14,7 +13,7 @@ use Rattle.algebra.specs.Polynomial.{Term, Poly, put, insert, reduce}
 use Rattle.algebra.specs.Reduced.{Reduced}
 use Rattle.algebra.proofs.Reduced.{reduced-reduce}
 use Rattle.algebra.proofs.Sums.{bound, below-bound, reduce-sums}
-use Rattle.terms.specs.Order.{total, SameTerms, none, setAt, Falls, AtLeast}
+use Rattle.terms.specs.Order.{total, SameTerms, none, setAt, Falls}
 use Rattle.terms.specs.Steps.{settle}
 use Rattle.terms.proofs.SameTerms.{total-append, same-terms-sum}
 

@@ -1,7 +1,6 @@
 -- `reduce_cost::fill` is safe and ends. The loop's invariant: the slice keeps its length; the measure is how many terms are left. Assumes nothing.
 use Prim.Native.Nat.{_≤_, _-_}
 use mathlib.Core.Path.{_≡_}
-use native.Mathlib.Omega.{arith}
 use lib.ListN.{length}
 use borrow.Author.Needs.{needs}
 use Rattle.reduce_cost.proofs.fill.Statement.{statement}

@@ -1,6 +1,5 @@
 -- `reduce_cost::number_in` meets its contract. The loop's invariant: the number is at most 1,024; the measure is what is left of the bytes. Assumes nothing.
 use Prim.Native.Nat.{_≤_, _-_}
-use native.Mathlib.Omega.{arith}
 use lib.ListN.{length}
 use borrow.Author.Needs.{needs}
 use Rattle.limits.specs.Limits.{lineProducts}

@@ -1,6 +1,5 @@
 -- `reduce_cost::order_in` is safe and ends. The loop's invariant: i is at most the length; the measure is what is left of the bytes. Assumes nothing.
 use Prim.Native.Nat.{_≤_, _-_}
-use native.Mathlib.Omega.{arith}
 use lib.ListN.{length}
 use borrow.Author.Needs.{needs}
 use Rattle.reduce_cost.proofs.order_in.Statement.{statement}

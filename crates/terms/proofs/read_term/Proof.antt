@@ -1,5 +1,5 @@
 -- `terms::read_term` meets its contract. The loop's invariant: the first i words are those from at; the measure is what is left of a term. Assumes nothing.
-use Prim.Native.Nat.{_≤_, _<_, _-_, _+_}
+use Prim.Native.Nat.{_≤_, _-_}
 use mathlib.Core.Path.{_≡_, refl, _∙_}
 use native.Mathlib.Omega.{arith}
 use borrow.Author.Needs.{needs}

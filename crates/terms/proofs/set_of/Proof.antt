@@ -1,5 +1,5 @@
 -- `terms::set_of` meets its contract. The loop's invariant: the first i words are the term's; the measure is what is left of a set. Assumes nothing.
-use Prim.Native.Nat.{_≤_, _<_, _-_, _+_}
+use Prim.Native.Nat.{_≤_, _-_}
 use mathlib.Core.Path.{_≡_, refl, ap, _∙_}
 use native.Mathlib.Omega.{arith}
 use borrow.Author.Needs.{needs}

@@ -1,5 +1,5 @@
 -- `terms::term_of` meets its contract. The loop's invariant: the first i words are the set's; the measure is what is left of a set. Assumes nothing.
-use Prim.Native.Nat.{_≤_, _<_, _-_, _+_}
+use Prim.Native.Nat.{_≤_, _-_}
 use mathlib.Core.Path.{_≡_, refl, ap, _∙_}
 use native.Mathlib.Omega.{arith}
 use borrow.Author.Needs.{needs}

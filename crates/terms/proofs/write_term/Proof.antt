@@ -1,6 +1,6 @@
 -- `terms::write_term` meets its contract. The loop's invariant: the first i words are written; the measure is what is left of a term. Assumes nothing.
-use Prim.Native.Nat.{_≤_, _<_, _-_, _+_}
-use mathlib.Core.Path.{_≡_, refl, _∙_}
+use Prim.Native.Nat.{_≤_, _-_}
+use mathlib.Core.Path.{_≡_, refl}
 use native.Mathlib.Omega.{arith}
 use borrow.Author.Needs.{needs}
 use lib.ListN.{length}
