@@ -81,8 +81,10 @@ fn fill(s: &mut [u64], order: u8, n: usize)
 {
     let mut i = 0;
     while i < n {
-        let x = key(order, n, i);
-        terms::write_term(s, i * limits::TERM_WORDS, [x, 0, 0, 0, 1]);
+        let mut t = [0; limits::TERM_WORDS];
+        t[0] = key(order, n, i);
+        t[limits::SET_WORDS] = 1;
+        terms::write_term(s, i * limits::TERM_WORDS, t);
         i += 1;
     }
 }
@@ -93,7 +95,7 @@ fn main() {
     let size = io::count(got, &text);
     let n = number_in(&text[..size]);
     let order = order_in(&text[..size]);
-    let mut run = [0u64; 5120];
+    let mut run = [0u64; MOST * limits::TERM_WORDS];
     fill(&mut run, order, n);
     let left = terms::reduce(&mut run, n, 64);
     io::print_decimal(1, left as u64);

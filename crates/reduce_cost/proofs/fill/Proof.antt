@@ -18,6 +18,12 @@ loop-holds c = search needs
 key-requires : tie.Need-key-requires Inv-loop μ-loop
 key-requires c κs = search needs
 
+array-write-t : tie.Need-array-write-t Inv-loop μ-loop
+array-write-t c = search needs
+
+array-write-t-2 : tie.Need-array-write-t-2 Inv-loop μ-loop
+array-write-t-2 c = search needs
+
 mul-write-term : tie.Need-mul-write-term Inv-loop μ-loop
 mul-write-term c = search needs
 
@@ -47,6 +53,8 @@ fill-spec =
     μ-loop
     loop-holds
     key-requires
+    array-write-t
+    array-write-t-2
     mul-write-term
     write-term-requires
     add-i
