@@ -5,3 +5,5 @@ pub mod OneForm
 pub mod Bit
 pub mod Derivation
 pub mod Variables
+pub mod Sums
+pub mod Unions

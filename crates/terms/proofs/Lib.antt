@@ -1,0 +1,11 @@
+pub mod Decode
+pub mod SameTerms
+pub mod Heaps
+pub mod Sorting
+pub mod Sliding
+pub mod Settling
+pub mod Rounding
+pub mod Comparing
+pub mod Merging
+pub mod Products
+pub mod Runs

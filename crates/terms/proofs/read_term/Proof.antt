@@ -1,0 +1,75 @@
+-- `terms::read_term` meets its contract. The loop's invariant: the first i words are those from at; the measure is what is left of a term. Assumes nothing.
+use Prim.Native.Nat.{_≤_, _-_}
+use mathlib.Core.Path.{_≡_, refl, _∙_}
+use native.Mathlib.Omega.{arith}
+use borrow.Author.Needs.{needs}
+use lib.ListN.{length, drop, replicate, length-set, length-drop}
+use lib.Seq.{paste, getD-drop}
+use Rattle.limits.specs.Limits.{termWords}
+use Rattle.ground.proofs.Parts.{fill-more, fill-all}
+use Rattle.terms.proofs.read_term.Statement.{statement}
+use Rattle.terms.proofs.read_term.Tie as tie
+
+abbrev Inv-loop : tie.InvT-loop
+Inv-loop s at t₀ i₀ t i = (i ≤ termWords) × (length t ≡ termWords) × (t ≡ paste t₀ 0 (drop at s) i)
+
+abbrev μ-loop : tie.MeasureT-loop
+μ-loop s at t₀ i₀ t i = termWords - i
+
+loop-holds : tie.Need-loop-holds Inv-loop μ-loop
+loop-holds c = (omega arith, refl, refl)
+
+add-t : tie.Need-add-t Inv-loop μ-loop
+add-t c = search needs
+
+mul-t : tie.Need-mul-t Inv-loop μ-loop
+mul-t c = search needs
+
+shared-slice-read-t : tie.Need-shared-slice-read-t Inv-loop μ-loop
+shared-slice-read-t c = search needs
+
+mul-t-2 : tie.Need-mul-t-2 Inv-loop μ-loop
+mul-t-2 c = search needs
+
+array-write-t : tie.Need-array-write-t Inv-loop μ-loop
+array-write-t c = search needs
+
+add-i : tie.Need-add-i Inv-loop μ-loop
+add-i c = search needs
+
+loop-less : tie.Need-loop-less Inv-loop μ-loop
+loop-less c = search needs
+
+loop-again : tie.Need-loop-again Inv-loop μ-loop
+loop-again c =
+    let b = c .before .before in
+    let a = b .before .args in (
+      omega arith,
+      simp length-set (b .loop .inv .1),
+      rw (b .loop .inv .2, ← getD-drop (a .at) (a .s .now) (b .loop .i) 0)
+          (fill-more (replicate termWords 0) (drop (a .at) (a .s .now)) (b .loop .i) (omega arith) (simp length-drop (omega arith))),
+    )
+
+returns : tie.Need-returns Inv-loop μ-loop
+returns c =
+    let b = c .before in
+    let a = b .before .args in
+    let e : b .loop .i ≡ termWords = omega arith in
+    (rw e at (b .loop .inv .2)) ∙ fill-all (replicate termWords 0) (drop (a .at) (a .s .now)) termWords refl
+
+pub read-term-spec : {M : Type 1} → statement M
+read-term-spec =
+    tie.close
+    (tie.spec
+    Inv-loop
+    μ-loop
+    loop-holds
+    add-t
+    mul-t
+    shared-slice-read-t
+    mul-t-2
+    array-write-t
+    add-i
+    loop-less
+    loop-again
+    returns)

@@ -1,0 +1,69 @@
+-- `terms::set_of` meets its contract. The loop's invariant: the first i words are the term's; the measure is what is left of a set. Assumes nothing.
+use Prim.Native.Nat.{_≤_, _-_}
+use mathlib.Core.Path.{_≡_, refl, ap, _∙_}
+use native.Mathlib.Omega.{arith}
+use borrow.Author.Needs.{needs}
+use lib.ListN.{length, replicate, length-set}
+use lib.Seq.{paste}
+use Rattle.limits.specs.Limits.{setWords, termWords}
+use Rattle.ground.proofs.Parts.{fill-more, fill-all}
+use Rattle.words.specs.Words.{number}
+use Rattle.terms.specs.Terms.{termOf}
+use Rattle.terms.proofs.set_of.Statement.{statement}
+use Rattle.terms.proofs.set_of.Tie as tie
+
+abbrev Inv-loop : tie.InvT-loop
+Inv-loop t a₀ i₀ a i = (i ≤ setWords) × (length t ≡ termWords) × (length a ≡ setWords) × (a ≡ paste a₀ 0 t i)
+
+abbrev μ-loop : tie.MeasureT-loop
+μ-loop t a₀ i₀ a i = setWords - i
+
+loop-holds : tie.Need-loop-holds Inv-loop μ-loop
+loop-holds c = (omega arith, search needs, refl, refl)
+
+mul-a : tie.Need-mul-a Inv-loop μ-loop
+mul-a c = search needs
+
+array-read-a : tie.Need-array-read-a Inv-loop μ-loop
+array-read-a c = search needs
+
+mul-a-2 : tie.Need-mul-a-2 Inv-loop μ-loop
+mul-a-2 c = search needs
+
+array-write-a : tie.Need-array-write-a Inv-loop μ-loop
+array-write-a c = search needs
+
+add-i : tie.Need-add-i Inv-loop μ-loop
+add-i c = search needs
+
+loop-less : tie.Need-loop-less Inv-loop μ-loop
+loop-less c = search needs
+
+loop-again : tie.Need-loop-again Inv-loop μ-loop
+loop-again c =
+    let b = c .before in
+    let a = b .before .args in
+    (omega arith, b .loop .inv .1, simp length-set (b .loop .inv .2), rw (b .loop .inv .3) (fill-more (replicate setWords 0) (a .t1) (b .loop .i) (omega arith) (omega arith)))
+
+returns : tie.Need-returns Inv-loop μ-loop
+unfolding termOf
+returns c =
+    let b = c .before in
+    let e : b .loop .i ≡ setWords = omega arith in
+    ap number ((rw e at (b .loop .inv .3)) ∙ fill-all (replicate setWords 0) (b .before .args .t1) setWords refl)
+
+pub set-of-spec : {M : Type 1} → statement M
+set-of-spec =
+    tie.close
+    (tie.spec
+    Inv-loop
+    μ-loop
+    loop-holds
+    mul-a
+    array-read-a
+    mul-a-2
+    array-write-a
+    add-i
+    loop-less
+    loop-again
+    returns)

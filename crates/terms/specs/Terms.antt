@@ -1,0 +1,25 @@
+-- A run of terms in words: each term is the words of its set, then its coefficient.
+use mathlib.Core.List.{List, [], _∷_}
+use Prim.Native.Nat.{ℕ, zero, suc, _*_, _%_, _^_}
+use lib.Bits.{bitOr}
+use lib.ListN.{take, drop, getD}
+use Rattle.limits.specs.Limits.{setWords, termWords}
+use Rattle.algebra.specs.Polynomial.{Term, Poly}
+use Rattle.words.specs.Words.{number}
+
+unfoldable pub termOf : List ℕ → Term
+termOf l = record { set = number (take setWords l); coef = getD l setWords 0 }
+
+-- the first n terms of some words
+unfoldable pub decode : ℕ → List ℕ → Poly
+decode zero l = []
+decode (suc n) l = termOf l ∷ decode n (drop termWords l)
+
+-- each coefficient modulo 2 ^ 64, as a word holds it
+unfoldable pub rounded : Poly → Poly
+rounded [] = []
+rounded (t ∷ p) = record { set = t .set; coef = t .coef % 2 ^ 64 } ∷ rounded p
+
+-- the product of two terms, as a word holds it
+unfoldable pub productOf : Term → Term → Term
+productOf t u = record { set = bitOr (t .set) (u .set); coef = (t .coef * u .coef) % 2 ^ 64 }
