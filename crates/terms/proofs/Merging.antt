@@ -12,9 +12,9 @@ use Rattle.ground.specs.Parts.{part}
 use Rattle.ground.proofs.Parts.{within-refl, within-trans, within-wider, above-kept}
 use Rattle.limits.specs.Limits.{setWords, termWords}
 use Rattle.algebra.specs.Polynomial.{Term, Poly, put, reduce}
-use Rattle.terms.specs.Terms.{termOf, decode}
+use Rattle.terms.specs.Terms.{termOf, decode, Leaves}
 use Rattle.terms.specs.Order.{Falls, none}
-use Rattle.terms.specs.Steps.{Sorted, settle, Leaves}
+use Rattle.terms.specs.Steps.{Sorted, settle}
 use Rattle.terms.proofs.Decode.{decode-length, decode-at, decode-take, decode-last, behind-within, decode-behind}
 use Rattle.terms.proofs.Settling.{reduce-order, reduce-more, settle-last}
 use Rattle.terms.proofs.Rounding.{put-word}
@@ -44,6 +44,10 @@ module _ (k n : ℕ) (s t : List ℕ) (c : ℕ) (ec : c ≡ getD t setWords 0 % 
 -- ---- a term settled behind n terms
 leaves-eq : {n m : ℕ} {p q : Poly} {s r : List ℕ} → p ≡ q → Leaves n p s r m → Leaves n q s r m
 leaves-eq e h = record { terms = h .terms ∙ e; few = h .few; within = h .within }
+
+-- how many terms are left
+pub leaves-length : (n m : ℕ) (p : Poly) (s r : List ℕ) → Leaves n p s r m → m ≡ length p
+leaves-length n m p s r h = sym (decode-length m r) ∙ ap length (h .terms)
 
 module _ (k n : ℕ) (s t : List ℕ) where
   pub settle-first : (r : List ℕ) (m : ℕ) → n ≡ 0 → Leaves (n + 1) (decode n s ++ put k (termOf t .set) (termOf t .coef) []) s r m

@@ -10,8 +10,7 @@ use Rattle.ground.specs.Parts.{part}
 use Rattle.ground.proofs.Parts.{within-refl, within-trans, within-wider, above-kept}
 use Rattle.limits.specs.Limits.{setWords, termWords}
 use Rattle.algebra.specs.Polynomial.{Term, Poly, times}
-use Rattle.terms.specs.Terms.{termOf, decode, rounded, productOf}
-use Rattle.terms.specs.Steps.{Appended}
+use Rattle.terms.specs.Terms.{termOf, decode, rounded, productOf, Appended}
 use Rattle.terms.proofs.Decode.{decode-last, behind-within, decode-behind}
 
 -- a product of two terms, from its set m, the union of a and b, and its coefficient c

@@ -4,8 +4,7 @@ use native.Mathlib.Omega.{arith}
 use borrow.Author.Needs.{needs}
 use Rattle.limits.specs.Limits.{termWords}
 use Rattle.algebra.specs.Polynomial.{times}
-use Rattle.terms.specs.Terms.{termOf, decode, rounded}
-use Rattle.terms.specs.Steps.{Appended}
+use Rattle.terms.specs.Terms.{termOf, decode, rounded, Appended}
 use Rattle.terms.proofs.Products.{appended-start, appended-more, appended-end}
 use Rattle.terms.proofs.append_times.Statement.{statement}
 use Rattle.terms.proofs.append_times.Tie as tie

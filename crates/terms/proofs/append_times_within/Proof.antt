@@ -5,8 +5,7 @@ use lib.ListN.{drop}
 use borrow.Author.Needs.{needs}
 use Rattle.limits.specs.Limits.{termWords}
 use Rattle.algebra.specs.Polynomial.{times}
-use Rattle.terms.specs.Terms.{termOf, decode, rounded}
-use Rattle.terms.specs.Steps.{Appended}
+use Rattle.terms.specs.Terms.{termOf, decode, rounded, Appended}
 use Rattle.terms.proofs.Products.{appended-start, appended-more, appended-source, appended-end}
 use Rattle.terms.proofs.append_times_within.Statement.{statement}
 use Rattle.terms.proofs.append_times_within.Tie as tie

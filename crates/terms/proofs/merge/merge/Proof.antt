@@ -5,8 +5,7 @@ use native.Mathlib.Omega.{arith}
 use lib.ListN.{take}
 use borrow.Author.Needs.{needs}
 use Rattle.algebra.specs.Polynomial.{reduce}
-use Rattle.terms.specs.Terms.{decode}
-use Rattle.terms.specs.Steps.{Leaves}
+use Rattle.terms.specs.Terms.{decode, Leaves}
 use Rattle.terms.proofs.Merging.{merge-start, merge-more, merge-end}
 use Rattle.terms.proofs.merge.merge.Statement.{statement}
 use Rattle.terms.proofs.merge.merge.Tie as tie
