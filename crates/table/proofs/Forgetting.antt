@@ -1,0 +1,125 @@
+-- Closing the gap over the columns and the pool: the rest is packed again, and its entries are those of before without one. Assumes nothing.
+use mathlib.Core.Path.{_≡_, sym, ap, ap₂, _∙_}
+use mathlib.Core.Logic.{⊎-elim}
+use mathlib.Core.List.{List}
+use Prim.Native.Nat.{ℕ, zero, suc, _+_, _-_, _*_, _≤_, _<_}
+use native.Mathlib.Nat.{eq-or-lt-of-le, sub-zero}
+use native.Mathlib.Omega.{arith}
+use lib.Dec.{leb}
+use lib.ListN.{length, drop, getD, length-drop}
+use lib.Seq.{paste}
+use borrow.Author.Tests.{leb-true, leb-false}
+use Rattle.ground.specs.Parts.{part, Within}
+use Rattle.ground.proofs.Parts.{paste-within}
+use Rattle.ground.proofs.Tests.{split}
+use Rattle.limits.specs.Limits.{termWords}
+use Rattle.algebra.specs.Polynomial.{Poly}
+use Rattle.terms.specs.Terms.{decode}
+use Rattle.terms.proofs.Decode.{decode-same}
+use Rattle.paper.specs.State.{Store, remove}
+use Rattle.table.specs.Table.{firsts, polyAt, entryAt, termsBefore, PackedColumns}
+use Rattle.table.specs.Steps.{Closed, FirstAt}
+use Rattle.table.proofs.Firsts.{firsts-split, firsts-cut, behind, stored-none, remove-split}
+use Rattle.table.proofs.Moving.{moved-part}
+use Rattle.table.proofs.Packing.{before-more, before-same, ends-before, ends-used}
+use Rattle.table.proofs.Laws.{poly-kept}
+
+-- the words of the pool once the j-th polynomial is gone
+abbrev closedPool : List ℕ → ℕ → ℕ → ℕ → List ℕ
+closedPool pool start count used =
+    paste pool (start * termWords) (drop (start * termWords + count * termWords) pool) (used * termWords - (start * termWords + count * termWords))
+
+-- the sums of a closed column of counts
+module _ (cs ds : List ℕ) (j n : ℕ) (h : j < n) (c : Closed cs j n 0 ds) where
+  sums-before : (k : ℕ) → k ≤ j → termsBefore ds k ≡ termsBefore cs k
+  sums-before k l = before-same cs ds k (λ i m. c .before i (omega arith))
+
+  sums-behind : (k : ℕ) → j ≤ k → k < n → termsBefore ds k + getD cs j 0 ≡ termsBefore cs (k + 1)
+  unfolding termsBefore
+  sums-behind zero l m = let e : j ≡ 0 = omega arith in rw e (omega arith)
+  sums-behind (suc k) l m =
+      ⊎-elim (λ (e : j ≡ suc k). rw e (omega (arith, before-more cs (suc k), sums-before (suc k) (omega arith))))
+      (λ (u : j < suc k).
+      let e : suc k + 1 ≡ k + 1 + 1 = omega arith in
+      rw e (omega (arith, sums-behind k (omega arith) (omega arith), c .behind k (omega arith) (omega arith), before-more cs (k + 1))))
+      (eq-or-lt-of-le l)
+
+-- the columns is, ss, cs of indices, starts and counts and the pool, and the columns js, ts, ds that are left
+module _ (is ss cs pool js ts ds : List ℕ) (j n used : ℕ) (p : PackedColumns ss cs n used) (h : j < n) (room : used * termWords ≤ length pool)
+    (ci : Closed is j n 0 js) (ct : Closed ss j n (getD cs j 0) ts) (cd : Closed cs j n 0 ds) where
+  abbrev start : ℕ
+  start = getD ss j 0
+
+  abbrev count : ℕ
+  count = getD cs j 0
+
+  abbrev left : List ℕ
+  left = closedPool pool start count used
+
+  starts-behind : (k : ℕ) → j ≤ k → k + 1 < n → (getD ts k 0 + count ≡ getD ss (k + 1) 0) × (start ≤ getD ts k 0)
+  starts-behind k l m =
+      let e = ct .behind k l m in
+      let b = p .begins (k + 1) m in
+      let q = sums-behind cs ds j n h cd k l (omega arith) in
+      let u = ends-before cs j (k + 1) (omega arith) in
+      let v = p .begins j h in
+      (omega arith, omega arith)
+
+  pub left-packed : PackedColumns ts ds (n - 1) (used - count)
+  left-packed = record { few = omega (arith, p .few); begins = begins; ends = ends }
+    where
+      begins : (k : ℕ) → k < n - 1 → getD ts k 0 ≡ termsBefore ds k
+      begins k l =
+          ⊎-elim (λ t. behind-gap (leb-true j k t)) (λ t. before-gap (leb-false j k t)) (split (leb j k))
+        where
+          behind-gap : j ≤ k → getD ts k 0 ≡ termsBefore ds k
+          behind-gap u = omega (arith, starts-behind k u (omega arith) .0, p .begins (k + 1) (omega arith), sums-behind cs ds j n h cd k u (omega arith))
+
+          before-gap : k < j → getD ts k 0 ≡ termsBefore ds k
+          before-gap u = ct .before k u ∙ p .begins k (omega arith) ∙ sym (sums-before cs ds j n h cd k (omega arith))
+
+      ends : used - count ≡ termsBefore ds (n - 1)
+      ends =
+          let e : n - 1 + 1 ≡ n = omega arith in
+          let q : termsBefore ds (n - 1) + count ≡ termsBefore cs n = rw e at (sums-behind cs ds j n h cd (n - 1) (omega arith) (omega arith)) in
+          omega (arith, p .ends)
+
+  -- the polynomials before the gap
+  poly-before : (k : ℕ) → k < j → polyAt ts ds left k ≡ polyAt ss cs pool k
+  poly-before k l =
+      let u = ends-used ss cs n used j p h in
+      let v = ends-before cs k j l in
+      let b = p .begins k (omega arith) in
+      let d = p .begins j h in
+      let w : Within (start * termWords) (start * termWords + (used * termWords - (start * termWords + count * termWords))) pool left
+      = paste-within pool (start * termWords) (drop (start * termWords + count * termWords) pool) (used * termWords - (start * termWords + count * termWords))
+      (omega arith) (simp length-drop (omega arith)) in
+      ap₂ (λ (a c : ℕ). decode c (drop (a * termWords) left)) (ct .before k l) (cd .before k l)
+      ∙ poly-kept ss cs pool left (start * termWords) _ k w (omega arith)
+
+  -- those behind it
+  poly-behind : (k : ℕ) → j ≤ k → k + 1 < n → polyAt ts ds left k ≡ polyAt ss cs pool (k + 1)
+  poly-behind k l m =
+      let u = ends-used ss cs n used (k + 1) p m in
+      let s = starts-behind k l m in
+      let c : getD ds k 0 ≡ getD cs (k + 1) 0 = cd .behind k l m ∙ sub-zero _ in
+      let e : getD ts k 0 * termWords + count * termWords ≡ getD ss (k + 1) 0 * termWords = omega (arith, s .0) in
+      let q : part (getD ts k 0 * termWords) (getD cs (k + 1) 0 * termWords) left ≡ part (getD ts k 0 * termWords + count * termWords) (getD cs (k + 1) 0 * termWords) pool
+      = moved-part pool (start * termWords) (count * termWords) (used * termWords) (getD ts k 0 * termWords) (getD cs (k + 1) 0 * termWords)
+      (omega (arith, s .1)) (omega (arith, s .0)) room in
+      ap (λ (m : ℕ). decode m (drop (getD ts k 0 * termWords) left)) c
+      ∙ decode-same (getD cs (k + 1) 0) (drop (getD ts k 0 * termWords + count * termWords) pool) (drop (getD ts k 0 * termWords) left) q
+      ∙ ap (λ (b : ℕ). decode (getD cs (k + 1) 0) (drop b pool)) e
+
+  pub left-store : (x : ℕ) → FirstAt is n x j → firsts (entryAt js ts ds left) (n - 1) ≡ remove (firsts (entryAt is ss cs pool) n) x
+  left-store x f =
+      firsts-cut (entryAt is ss cs pool) (entryAt js ts ds left) j n h before after
+      ∙ sym (ap (λ (s : Store). remove s x) (firsts-split (entryAt is ss cs pool) j n h)
+      ∙ remove-split (firsts (entryAt is ss cs pool) j) (behind (entryAt is ss cs pool) j n) (entryAt is ss cs pool j) x (f .here)
+      (stored-none (entryAt is ss cs pool) j x (f .earlier .nowhere)))
+    where
+      before : (k : ℕ) → k < j → entryAt js ts ds left k ≡ entryAt is ss cs pool k
+      before k l = ap₂ (λ (i : ℕ) (q : Poly). record { index = i; poly = q }) (ci .before k l) (poly-before k l)
+
+      after : (k : ℕ) → j ≤ k → k + 1 < n → entryAt js ts ds left k ≡ entryAt is ss cs pool (k + 1)
+      after k l m = ap₂ (λ (i : ℕ) (q : Poly). record { index = i; poly = q }) (ci .behind k l m ∙ sub-zero _) (poly-behind k l m)

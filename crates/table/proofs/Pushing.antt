@@ -1,0 +1,49 @@
+-- A polynomial added at the end of the columns: the table is packed again, and the store has one entry more. Assumes nothing.
+use mathlib.Core.Path.{_≡_, ap₂, sym, _∙_}
+use mathlib.Core.Logic.{⊎-elim}
+use mathlib.Core.List.{List, [], _∷_, _++_}
+use Prim.Native.Nat.{ℕ, _+_, _*_, _≤_, _<_}
+use native.Mathlib.Nat.{eq-or-lt-of-le}
+use native.Mathlib.Omega.{arith}
+use lib.ListN.{length, drop, getD, set}
+use lib.Seq.{getD-set-same, getD-set-other}
+use Rattle.limits.specs.Limits.{storedPolynomials, termWords}
+use Rattle.terms.specs.Terms.{decode}
+use Rattle.paper.specs.State.{Entry, Store}
+use Rattle.table.specs.Table.{firsts, entryAt, termsBefore, PackedColumns}
+use Rattle.table.proofs.Firsts.{firsts-same, firsts-more}
+use Rattle.table.proofs.Packing.{before-more, before-same}
+
+module _ (is ss cs : List ℕ) (n used index terms : ℕ) (li : n < length is) (ls : n < length ss) (lc : n < length cs) where
+  kept : (l : List ℕ) (x k : ℕ) → k < n → getD (set l n x) k 0 ≡ getD l k 0
+  kept l x k h = getD-set-other l n k x 0 (λ e. omega arith)
+
+  pub pushed-packed : n < storedPolynomials → PackedColumns ss cs n used → PackedColumns (set ss n used) (set cs n terms) (n + 1) (used + terms)
+  pushed-packed few p = record {
+    few = omega arith;
+    begins = begins;
+    ends = omega (arith, p .ends, before-more (set cs n terms) n, sums n (omega arith), getD-set-same cs n terms 0 lc);
+  }
+    where
+      sums : (k : ℕ) → k ≤ n → termsBefore (set cs n terms) k ≡ termsBefore cs k
+      sums k h = before-same cs (set cs n terms) k (λ i l. kept cs terms i (omega arith))
+
+      begins : (j : ℕ) → j < n + 1 → getD (set ss n used) j 0 ≡ termsBefore (set cs n terms) j
+      begins j l =
+          ⊎-elim (λ (e : j ≡ n). rw e (getD-set-same ss n used 0 ls ∙ p .ends ∙ sym (sums n (omega arith))))
+          (λ (h : j < n). kept ss used j h ∙ p .begins j h ∙ sym (sums j (omega arith)))
+          (eq-or-lt-of-le (let m : j ≤ n = omega arith in m))
+
+  pub pushed-store : (pool : List ℕ)
+      → firsts (entryAt (set is n index) (set ss n used) (set cs n terms) pool) (n + 1)
+      ≡ firsts (entryAt is ss cs pool) n ++ (record { index = index; poly = decode terms (drop (used * termWords) pool) } ∷ [])
+  pushed-store pool =
+      firsts-more (entryAt (set is n index) (set ss n used) (set cs n terms) pool) n
+      ∙ ap₂ (λ (s : Store) (e : Entry). s ++ (e ∷ []))
+      (firsts-same (entryAt (set is n index) (set ss n used) (set cs n terms) pool) (entryAt is ss cs pool) n
+      (λ k h. alike _ _ _ _ _ _ (kept is index k h) (kept ss used k h) (kept cs terms k h)))
+      (alike _ _ _ _ _ _ (getD-set-same is n index 0 li) (getD-set-same ss n used 0 ls) (getD-set-same cs n terms 0 lc))
+    where
+      alike : (i j a b c d : ℕ) → i ≡ j → a ≡ b → c ≡ d
+          → _≡_ {A = Entry} (record { index = i; poly = decode c (drop (a * termWords) pool) }) (record { index = j; poly = decode d (drop (b * termWords) pool) })
+      alike i j a b c d ei ea ec = λ t. record { index = ei t; poly = decode (ec t) (drop (ea t * termWords) pool) }

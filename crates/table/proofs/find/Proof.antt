@@ -1,0 +1,60 @@
+-- `table::find` meets its contract. The loop's invariant: x is none of the first j numbers.
+-- The measure is the count of numbers left. Assumes nothing.
+use mathlib.Core.Path.{_≡_}
+use Prim.Native.Nat.{_≤_, _-_}
+use native.Mathlib.Omega.{arith}
+use borrow.Author.Count.{below-none, below-more}
+use borrow.Author.Needs.{needs}
+use Rattle.table.specs.Steps.{Absent}
+use Rattle.table.proofs.find.Statement.{statement}
+use Rattle.table.proofs.find.Tie as tie
+
+abbrev Inv-loop : tie.InvT-loop
+Inv-loop column n x j₀ j = (j ≤ n) × Absent column j x
+
+abbrev μ-loop : tie.MeasureT-loop
+μ-loop column n x j₀ j = n - j
+
+loop-holds : tie.Need-loop-holds Inv-loop μ-loop
+loop-holds c = (omega arith, record { nowhere = below-none _ })
+
+mul-if1 : tie.Need-mul-if1 Inv-loop μ-loop
+mul-if1 c = search needs
+
+element-copy-out-if1 : tie.Need-element-copy-out-if1 Inv-loop μ-loop
+element-copy-out-if1 c = search needs
+
+returns : tie.Need-returns Inv-loop μ-loop
+returns c = let loop = c .before .before .before .loop in record { inside = omega arith; here = c .if1 .taken; earlier = loop .inv .1 }
+
+add-j : tie.Need-add-j Inv-loop μ-loop
+add-j c = search needs
+
+loop-less : tie.Need-loop-less Inv-loop μ-loop
+loop-less c = search needs
+
+loop-again : tie.Need-loop-again Inv-loop μ-loop
+loop-again c =
+    let loop = c .before .before .before .loop in
+    (omega arith, record { nowhere = below-more _ _ (loop .inv .1 .nowhere) (c .if1 .left) })
+
+returns-2 : tie.Need-returns-2 Inv-loop μ-loop
+returns-2 c =
+    let loop = c .before .loop in
+    let e : loop .j ≡ c .before .before .args .n = omega arith in
+    rw e at (loop .inv .1)
+
+pub find-spec : {M : Type 1} → statement M
+find-spec =
+    tie.close
+    (tie.spec
+    Inv-loop
+    μ-loop
+    loop-holds
+    mul-if1
+    element-copy-out-if1
+    returns
+    add-j
+    loop-less
+    loop-again
+    returns-2)

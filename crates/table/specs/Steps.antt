@@ -1,0 +1,56 @@
+-- What each function of the table leaves.
+use mathlib.Core.Path.{_≡_}
+use mathlib.Core.List.{List, [], _∷_, _++_}
+use Prim.Native.Nat.{ℕ, _+_, _-_, _*_, _≤_, _<_}
+use lib.ListN.{drop, getD}
+use Rattle.limits.specs.Limits.{storedPolynomials, termWords}
+use Rattle.terms.specs.Terms.{decode}
+use Rattle.paper.specs.State.{remove, start}
+use Rattle.table.specs.declared.Found.{Found}
+use Rattle.table.specs.declared.Found.the-variants.{At, Nothing}
+use Rattle.table.specs.declared.Table.{Table}
+use Rattle.table.specs.Table.{storeOf, Packed}
+
+-- x is none of the first n of a column
+pub record Absent (column : List ℕ) (n x : ℕ) : Type 0 where
+  pub nowhere : (k : ℕ) → k < n → getD column k 0 ≡ x → ⊥
+
+-- j is the first place of x among the first n
+pub record FirstAt (column : List ℕ) (n x j : ℕ) : Type 0 where
+  pub inside : j < n
+  pub here : getD column j 0 ≡ x
+  pub earlier : Absent column j x
+
+abbrev pub Finds : List ℕ → ℕ → ℕ → Found → Type 0
+Finds column n x (At j) = FirstAt column n x j
+Finds column n x Nothing = Absent column n x
+
+-- no number behind j is below fall
+pub record Closable (column : List ℕ) (j n fall : ℕ) : Type 0 where
+  pub inside : j < n
+  pub few : n ≤ storedPolynomials
+  pub least : (k : ℕ) → j < k → k < n → fall ≤ getD column k 0
+
+-- of the first n those behind j stand one place lower, each less by fall
+pub record Closed (column : List ℕ) (j n fall : ℕ) (r : List ℕ) : Type 0 where
+  pub before : (k : ℕ) → k < j → getD r k 0 ≡ getD column k 0
+  pub behind : (k : ℕ) → j ≤ k → k + 1 < n → getD r k 0 ≡ getD column (k + 1) 0 - fall
+
+pub record Fresh (r : Table) : Type 0 where
+  pub store : (pool : List ℕ) → storeOf r pool ≡ []
+  pub packed : Packed r
+  pub used : r .used ≡ 0
+
+-- the terms behind the used ones are the last entry
+pub record Pushed (s : Table) (index terms : ℕ) (r : Table) : Type 0 where
+  pub store : (pool : List ℕ) → storeOf r pool ≡ storeOf s pool ++ (record { index = index; poly = decode terms (drop (s .used * termWords) pool) } ∷ [])
+  pub packed : Packed r
+  pub stored : r .stored ≡ s .stored + 1
+  pub used : r .used ≡ s .used + terms
+
+-- the j-th entry, which is the first under its index, is gone from the table and the pool
+pub record Forgotten (s : Table) (pool : List ℕ) (j : ℕ) (r : Table) (left : List ℕ) : Type 0 where
+  pub store : (x : ℕ) → FirstAt (s .indices) (s .stored) x j → storeOf r left ≡ remove (storeOf s pool) x
+  pub packed : Packed r
+  pub stored : r .stored + 1 ≡ s .stored
+  pub used : r .used + getD (s .counts) j 0 ≡ s .used
