@@ -1,8 +1,69 @@
-// The paper's numbers as the code has them; specs/Limits.antt has their meaning.
+// The paper's numbers as the code has them; specs/Limits.antt and specs/Verdicts.antt have their meaning.
+
+// ---- what a number may be
+pub const VARIABLES: u64 = 256;
+
+pub const GREATEST_RING: u64 = 64;
+
+pub const GREATEST_INDEX: u64 = 4294967295;
+
+pub const GREATEST_MAGNITUDE: u64 = 18446744073709551615;
+
+// ---- how much a text may hold
+pub const TEXT_BYTES: usize = 1048576;
+
+pub const LINE_BYTES: usize = 8192;
+
+pub const FIELD_TERMS: usize = 96;
+
 pub const STORED_POLYNOMIALS: usize = 512;
 
+pub const LINE_PRODUCTS: usize = 1024;
+
+// ---- the lent room
 pub const SET_WORDS: usize = 4;
 
 pub const TERM_WORDS: usize = 5;
 
+pub const LEAST_POOL: usize = 480;
+
 pub const POOL_TERMS: usize = 65536;
+
+pub const LEAST_SCRATCH: usize = 6560;
+
+pub const LEAST_SPELLING_SCRATCH: usize = 480;
+
+// ---- verdicts
+pub const ACCEPTED: u64 = 0;
+
+pub const SHORT: u64 = 1;
+
+pub const LONGTEXT: u64 = 2;
+
+pub const LONGLINE: u64 = 3;
+
+pub const FORM: u64 = 4;
+
+pub const NUMBER: u64 = 5;
+
+pub const TERMS: u64 = 6;
+
+pub const ORDER: u64 = 7;
+
+pub const TAKEN: u64 = 8;
+
+pub const MISSING: u64 = 9;
+
+pub const SEEN: u64 = 10;
+
+pub const PRODUCTS: u64 = 11;
+
+pub const MISMATCH: u64 = 12;
+
+pub const NOTBIT: u64 = 13;
+
+pub const FULL: u64 = 14;
+
+pub const NOGOAL: u64 = 15;
+
+pub const NOTREACHED: u64 = 16;

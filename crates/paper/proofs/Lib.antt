@@ -5,3 +5,4 @@ pub mod Accepted
 pub mod Store
 pub mod Counts
 pub mod Judging
+pub mod Reading

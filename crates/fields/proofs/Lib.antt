@@ -1,0 +1,4 @@
+pub mod Taking
+pub mod TermParts
+pub mod Gathering
+pub mod Meaning

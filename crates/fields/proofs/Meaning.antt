@@ -1,0 +1,48 @@
+-- A field as words hold it means what the paper says, at every k up to 64. Assumes nothing.
+use mathlib.Core.Path.{_≡_}
+use mathlib.Core.Bool.{Bool, true, false, _&&_, cond}
+use mathlib.Core.List.{[], _∷_, map}
+use Prim.Native.Nat.{ℕ, _-_, _*_, _%_, _^_, _≤_, _<_}
+use native.Mathlib.Omega.{arith}
+use lib.Dec.{leb}
+use borrow.Author.Tests.{leb-true}
+use Rattle.ground.specs.Congruence.{Same}
+use Rattle.ground.specs.Lists.{every}
+use Rattle.ground.proofs.Congruence.{same-refl, same-add, same-mod, _⊳_}
+use Rattle.ground.proofs.Tests.{and-left, and-right}
+use Rattle.limits.specs.Limits.{greatestMagnitude}
+use Rattle.algebra.specs.Polynomial.{keep, sumIf, minusOne, reduce}
+use Rattle.algebra.proofs.Sums.{reduce-sums}
+use Rattle.words.proofs.Wrap.{same-cut, same-negative}
+use Rattle.paper.specs.Statement.{WrittenTerm, Written}
+use Rattle.paper.specs.Meaning.{isVariable, isTerm, inRange, setOf, asTerm, reduced}
+use Rattle.fields.specs.Worded.{signedWord, wordedTerm, worded}
+
+keep-same : {M x y : ℕ} (b : Bool) → Same M x y → Same M (keep b x) (keep b y)
+keep-same true h = h
+keep-same false h = same-refl
+
+magnitude-le : (t : WrittenTerm) → isTerm t ≡ true → t .magnitude ≤ greatestMagnitude
+unfolding isTerm
+magnitude-le t e =
+    leb-true (t .magnitude) greatestMagnitude
+    (and-right (leb 1 (t .magnitude)) (leb (t .magnitude) greatestMagnitude)
+    (and-left (leb 1 (t .magnitude) && leb (t .magnitude) greatestMagnitude) (every isVariable (t .variables)) e))
+
+module _ (k : ℕ) (h : k ≤ 64) where
+  signed-same : (negative : Bool) (m : ℕ) → m ≤ greatestMagnitude → Same (2 ^ k) (signedWord negative m) (cond negative (minusOne k * m) m)
+  unfolding signedWord
+  signed-same true m l = same-cut k h (same-mod (2 ^ 64 - m)) ⊳ same-negative k h m (omega arith)
+  signed-same false m l = same-refl
+
+  sums : (p : Written) → inRange p ≡ true → (f : ℕ → Bool) → Same (2 ^ k) (sumIf f (worded p)) (sumIf f (map (asTerm k) p))
+  unfolding worded wordedTerm asTerm inRange every
+  sums [] e f = same-refl
+  sums (t ∷ p) e f =
+      same-add
+      (keep-same (f (setOf (t .variables))) (signed-same (t .negative) (t .magnitude) (magnitude-le t (and-left (isTerm t) (every isTerm p) e))))
+      (sums p (and-right (isTerm t) (every isTerm p) e) f)
+
+  pub worded-reduced : (p : Written) → inRange p ≡ true → reduce k (worded p) ≡ reduced k p
+  unfolding reduced
+  worded-reduced p e = reduce-sums k (worded p) (map (asTerm k) p) (sums p e)

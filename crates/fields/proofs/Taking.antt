@@ -1,0 +1,139 @@
+-- What can be read at a place: a decimal that a word holds, the next of as many items as follow, and the parts of a term.
+-- Assumes nothing.
+use mathlib.Core.Path.{_≡_, refl, sym, ap, ap₂, _∙_}
+use mathlib.Core.Bool.{Bool, true, false, _&&_, cond}
+use mathlib.Core.List.{List, [], _∷_, _++_}
+use Prim.Native.Nat.{ℕ, suc, _+_, _-_, _%_, _^_, _≤_, _<_}
+use Prim.Native.Char.{code}
+use native.Mathlib.Numerals.{add-one}
+use native.Mathlib.Omega.{arith}
+use lib.Bits.{bitOr, or-comm}
+use lib.Dec.{eqb, ltb, leb}
+use lib.ListN.{length, drop, getD, length-append}
+use lib.Seq.{drop-cons}
+use borrow.Author.Tests.{ltb-true, lt-ltb, leb-true}
+use Rattle.ground.specs.Lists.{every}
+use Rattle.ground.proofs.Tests.{and-left, and-right}
+use Rattle.limits.specs.Limits.{greatestMagnitude}
+use Rattle.algebra.proofs.Unions.{or-assoc}
+use Rattle.words.specs.Words.{number}
+use Rattle.paper.specs.Text.{Bytes}
+use Rattle.paper.specs.Reader.{Read, got, stuck, Reader, next, each}
+use Rattle.paper.specs.Statement.{WrittenTerm}
+use Rattle.paper.specs.Grammar.{decimal, sign, term}
+use Rattle.paper.specs.Meaning.{isVariable, isTerm, setOf}
+use Rattle.paper.proofs.Reading.{Parted, parted, Takes, each-more, each-stuck, every-append}
+use Rattle.reader.specs.Places.{Got}
+use Rattle.reader.specs.Numbers.{DecimalIs}
+use Rattle.reader.specs.declared.number.Decimal.{Decimal}
+use Rattle.reader.specs.declared.number.Decimal.the-variants.{Value, Large, Stuck}
+use Rattle.fields.specs.Worded.{signedWord}
+use Rattle.fields.specs.Fields.{Good, isWord}
+use Rattle.reader.proofs.Scans.{Passed}
+
+-- one reading has one value and one rest
+pub same-value : {A : Type 0} {r : Read A} {x y : A} {s t : Bytes} → r ≡ got x s → r ≡ got y t → x ≡ y
+same-value p q = cc
+
+pub same-rest : {A : Type 0} {r : Read A} {x y : A} {s t : Bytes} → r ≡ got x s → r ≡ got y t → s ≡ t
+same-rest p q = cc
+
+pub not-both : {A : Type 0} {r : Read A} {x : A} {s t : Bytes} → r ≡ got x s → r ≡ stuck t → ⊥
+not-both p q = let z : _≡_ {A = ℕ} 0 1 = cc in omega arith
+
+-- ---- a decimal that a word holds
+pub is-word : (n : ℕ) → isWord n ≡ true → n < 2 ^ 64
+unfolding isWord
+is-word n e = ltb-true n (2 ^ 64) e
+
+pub variable-word : (v : ℕ) → isVariable v ≡ true → isWord v ≡ true
+unfolding isVariable isWord
+variable-word v e = let h : v < 256 = ltb-true v 256 e in lt-ltb v (2 ^ 64) (omega arith)
+
+pub is-variable : (v : ℕ) → isVariable v ≡ true → v < 256
+unfolding isVariable
+is-variable v e = ltb-true v 256 e
+
+pub good-weaken : {A : Type 0} {read : Reader A} {f g : A → Bool} {s : Bytes} {at : ℕ} → ((x : A) → f x ≡ true → g x ≡ true) → Good read f s at → Good read g s at
+good-weaken h p = record { value = p .value; rest = p .rest; reads = p .reads; passes = h (p .value) (p .passes); inside = p .inside }
+
+pub good-decimal : (s : Bytes) (at : ℕ) (d : Decimal) → DecimalIs decimal s at d → Good decimal isWord s at → ((v e : ℕ) → d ≡ Value v e → ⊥) → ⊥
+good-decimal s at (Value v e) d g n = n v e refl
+good-decimal s at (Large e) d g n =
+    let l = d .large in
+    omega (arith, is-word (g .value) (g .passes), same-value (g .reads) (d .taken .reads))
+good-decimal s at (Stuck p) d g n = not-both (g .reads) (d .reads)
+
+-- ---- the next item
+pub record Following {A : Type 0} (item : Reader A) (test : A → Bool) (s : Bytes) (i : ℕ) (items whole : List A) : Type 0 where
+  pub good : Good item test s i
+  pub more : List A
+  pub parts : whole ≡ items ++ (good .value ∷ more)
+
+module _ {A : Type 0} {allowed : ℕ → Bool} {n : ℕ} (c : ℕ) (item : Reader A) (takes : Takes allowed n item) (test : A → Bool) {P : List A → Type 0} where
+  pub following : (s : Bytes) (at i : ℕ) (p : Passed c item P s at i) (ys : List A) (rest : Bytes) → each c item (drop at s) ≡ got ys rest → every test ys ≡ true
+      → i < length s → getD s i 0 ≡ c → Following item test s (i + 1) (p .items) ys
+  unfolding every
+  following s at i p ys rest e t h b = go (item (drop (i + 1) s)) refl
+    where
+      go : (r : Read A) → item (drop (i + 1) s) ≡ r → Following item test s (i + 1) (p .items) ys
+      go (stuck r) q =
+          absurd (not-both e (p .reads ∙ ap (λ (x : Read (List A)). next x (λ xs r. got (p .items ++ xs) r)) (each-stuck c item s i h b r q)))
+      go (got x r) q =
+          let w : next (next (each c item r) (λ xs t. got (x ∷ xs) t)) (λ xs r. got (p .items ++ xs) r) ≡ got ys rest
+          = sym (p .reads ∙ ap (λ (z : Read (List A)). next z (λ xs r. got (p .items ++ xs) r)) (each-more c item takes s i h b x r q)) ∙ e in
+          let u = parted (next (each c item r) (λ xs t. got (x ∷ xs) t)) (λ xs r. got (p .items ++ xs) r) w in
+          let v = parted (each c item r) (λ xs t. got (x ∷ xs) t) (u .first) in
+          let m : (x ∷ v .value) ≡ u .value = (let z = v .second in cc) in
+          let y : p .items ++ u .value ≡ ys = (let z = u .second in cc) in
+          let z : ys ≡ p .items ++ (x ∷ v .value) = sym (ap (λ (l : List A). p .items ++ l) m ∙ y) in
+          let f : (every test (p .items) && (test x && every test (v .value))) ≡ true = sym (every-append test (p .items) (x ∷ v .value)) ∙ ap (every test) (sym z) ∙ t in
+          record {
+            good = record {
+              value = x;
+              rest = r;
+              reads = q;
+              passes = and-left (test x) (every test (v .value)) (and-right (every test (p .items)) (test x && every test (v .value)) f);
+              inside = omega arith;
+            };
+            more = v .value;
+            parts = z;
+          }
+
+-- the items are fewer than the whole
+pub following-length : {A : Type 0} {item : Reader A} {test : A → Bool} {s : Bytes} {i : ℕ} {items whole : List A} → Following item test s i items whole
+    → length items < length whole
+following-length {items = items} f = omega (arith, ap length (f .parts) ∙ length-append items (f .good .value ∷ f .more))
+
+-- ---- sets
+pub set-of-more : (vs : List ℕ) (v : ℕ) → setOf (vs ++ (v ∷ [])) ≡ bitOr (2 ^ v) (setOf vs)
+unfolding setOf
+set-of-more [] v = refl
+set-of-more (u ∷ vs) v =
+    ap (bitOr (2 ^ u)) (set-of-more vs v)
+    ∙ sym (or-assoc (2 ^ u) (2 ^ v) (setOf vs))
+    ∙ ap (λ (x : ℕ). bitOr x (setOf vs)) (or-comm (2 ^ u) (2 ^ v))
+    ∙ or-assoc (2 ^ v) (2 ^ u) (setOf vs)
+
+-- ---- signs
+pub signed-negative : (b : Bool) (c r : ℕ) → b ≡ true → r ≡ (2 ^ 64 - c) % 2 ^ 64 → r ≡ signedWord b c
+unfolding signedWord
+signed-negative b c r e q = q ∙ sym (ap (λ (x : Bool). cond x ((2 ^ 64 - c) % 2 ^ 64) c) e)
+
+pub signed-positive : (b : Bool) (c : ℕ) → b ≡ false → c ≡ signedWord b c
+unfolding signedWord
+signed-positive b c e = sym (ap (λ (x : Bool). cond x ((2 ^ 64 - c) % 2 ^ 64) c) e)
+
+pub behind-yes : (b : Bool) (x y : ℕ) → b ≡ true → x ≡ cond b x y
+behind-yes b x y e = sym (ap (λ (z : Bool). cond z x y) e)
+
+pub behind-no : (b : Bool) (x y : ℕ) → b ≡ false → y ≡ cond b x y
+behind-no b x y e = sym (ap (λ (z : Bool). cond z x y) e)
+
+pub no-variables : number (0 ∷ 0 ∷ 0 ∷ 0 ∷ []) ≡ setOf []
+unfolding number setOf
+no-variables = refl
+
+-- one variable more
+pub one-more : (m x v : ℕ) (vs : List ℕ) → x ≡ bitOr (2 ^ v) m → m ≡ setOf vs → x ≡ setOf (vs ++ (v ∷ []))
+one-more m x v vs e h = e ∙ ap (bitOr (2 ^ v)) h ∙ sym (set-of-more vs v)

@@ -1,0 +1,36 @@
+-- `fields::append_term` meets its contract: the term that is read is written behind the others. No loop.
+-- Assumes nothing.
+use native.Mathlib.Omega.{arith}
+use borrow.Author.Needs.{needs}
+use Rattle.fields.proofs.Gathering.{append-term}
+use Rattle.fields.proofs.append_term.Statement.{statement}
+use Rattle.fields.proofs.append_term.Tie as tie
+use Rattle.fields.proofs.append_term.Reads as reads
+use Rattle.fields.proofs.append_term.Lts as lts
+
+-- src/lib.rt:116:9
+read-term-requires : tie.Need-read-term-requires
+read-term-requires c κs = search needs
+
+-- src/lib.rt:118:28
+mul-write-term : tie.Need-mul-write-term
+mul-write-term c = search needs
+
+-- src/lib.rt:118:5
+write-term-requires : tie.Need-write-term-requires
+write-term-requires c κs = search needs
+
+-- src/lib.rt:112:1
+same-length : tie.Need-same-length
+same-length c = search needs
+
+-- src/lib.rt:112:1
+returns : tie.Need-returns
+returns c =
+    let b = c .before .before .before .before .before .before .before .before in
+    let t = c .before .before .before .before .before .read-term in
+    append-term (b .args .s .now) (b .args .at) (b .args .n) (b .args .out .now) (c .before .before .write-term .last .0) (t .result) (search needs) (b .pre .1) (t .ensures) (c .before .before .write-term .ensures)
+
+pub append-term-spec : {M : Type 1} → statement M
+append-term-spec =
+    tie.close (tie.spec read-term-requires mul-write-term write-term-requires same-length returns)

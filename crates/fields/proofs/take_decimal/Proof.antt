@@ -1,0 +1,37 @@
+-- `fields::take_decimal` meets its contract: a decimal that can be read and that a word holds is found. No loop.
+-- Assumes nothing.
+use mathlib.Core.Logic.{⊎-elim}
+use native.Mathlib.Omega.{arith}
+use borrow.Author.Needs.{needs}
+use Rattle.paper.specs.Grammar.{decimal}
+use Rattle.reader.proofs.Numbers.{decimal-got}
+use Rattle.fields.proofs.Taking.{good-decimal}
+use Rattle.fields.proofs.take_decimal.Statement.{statement}
+use Rattle.fields.proofs.take_decimal.Tie as tie
+use Rattle.fields.proofs.take_decimal.Reads as reads
+use Rattle.fields.proofs.take_decimal.Lts as lts
+
+-- src/lib.rt:47:9
+decimal-at-requires : tie.Need-decimal-at-requires
+decimal-at-requires c κs = search needs
+
+-- src/lib.rt:48:24
+enum-known-d : tie.Need-enum-known-d
+enum-known-d c = search needs
+
+-- src/lib.rt:49:9
+returns : tie.Need-returns
+returns c =
+    let b = c .before .before .before in
+    let d = c .before .decimal-at in
+    absurd (good-decimal (b .args .s .now) (b .args .at) (d .result) (d .ensures) (b .pre)
+    (λ v e q. ⊎-elim (λ p. absurd (let z : ⊥ = omega arith in z)) (λ p. absurd (let z : ⊥ = omega arith in z)) (rw q at (c .match .keys2))))
+
+-- src/lib.rt:43:1
+returns-2 : tie.Need-returns-2
+returns-2 c =
+    let b = c .before .before .before .before .before in
+    decimal-got decimal (b .args .s .now) (b .args .at) (c .before .d .given .1) (c .before .before .before .decimal-at .ensures)
+
+pub take-decimal-spec : {M : Type 1} → statement M
+take-decimal-spec = tie.close (tie.spec decimal-at-requires enum-known-d returns returns-2)

@@ -1,0 +1,152 @@
+// Fields of a line, read into runs of terms. A scan has found that they can be read and that their numbers are in range.
+ghost use mathlib.Core.Path.{_≡_};
+ghost use mathlib.Core.Bool.{cond};
+ghost use Prim.Native.Nat.{_+_, _*_, _≤_};
+ghost use lib.ListN.{length};
+ghost use Rattle.ground.specs.Lists.{every};
+ghost use Rattle.limits.specs.Limits.{fieldTerms, termWords};
+ghost use Rattle.paper.specs.Grammar.{decimal, term, polynomial};
+ghost use Rattle.paper.specs.Meaning.{isVariable, isTerm};
+ghost use Rattle.reader.specs.Places.{Got};
+ghost use Rattle.reader.specs.Fields.{moreVariables, moreTerms};
+ghost use Rattle.fields.specs.Worded.{signedWord};
+ghost use Rattle.fields.specs.Fields.{Good, isWord, isRest, isField, NamedAt, TermAt, Appended, RestAt, FieldAt};
+use reader::number::Decimal;
+use reader::number::decimal_at;
+use terms::Term;
+use words::Set;
+
+// A number and its end.
+pub struct Taken {
+    pub value: u64,
+    pub end: usize,
+}
+
+// Variables and their end.
+pub struct Named {
+    pub set: Set,
+    pub end: usize,
+}
+
+// A term and its end.
+pub struct TermRead {
+    pub term: Term,
+    pub end: usize,
+}
+
+// How many terms a field has, and its end.
+pub struct FieldRun {
+    pub terms: usize,
+    pub end: usize,
+}
+
+// The decimal at at.
+fn take_decimal(s: &[u8], at: usize) -> Taken
+    requires { ⌜ Good decimal isWord (now s) at ⌝ }
+    ensures { λ r. ⌜ Got decimal (now (s .entry)) at (r .value) (r .end) ⌝ }
+{
+    let d = decimal_at(s, at);
+    let Decimal::Value(value, end) = d else {
+        return Taken { value: 0, end: at };
+    };
+    Taken { value, end }
+}
+
+// The variables at at, each behind a dot.
+fn read_variables(s: &[u8], at: usize) -> Named
+    requires { ⌜ Good moreVariables (every isVariable) (now s) at ⌝ }
+    ensures { λ r. ⌜ NamedAt (now (s .entry)) at r ⌝ }
+{
+    let mut set = [0; limits::SET_WORDS];
+    let mut i = at;
+    while i < s.len() {
+        if s[i] != b'.' {
+            return Named { set, end: i };
+        }
+        let v = take_decimal(s, i + 1);
+        let more = words::with(set, v.value as usize);
+        set = more;
+        i = v.end;
+    }
+    Named { set, end: i }
+}
+
+// The place behind a sign at at, if there is one.
+fn behind_sign(at: usize, negative: bool) -> usize
+    requires { ⌜ at + 1 ≤ 18446744073709551615 ⌝ }
+    ensures { λ r. ⌜ r ≡ cond negative (at + 1) at ⌝ }
+{
+    if negative {
+        return at + 1;
+    }
+    at
+}
+
+// A magnitude with its sign.
+fn signed(c: u64, negative: bool) -> u64
+    ensures { λ r. ⌜ r ≡ signedWord negative c ⌝ }
+{
+    if negative {
+        return words::negative(c);
+    }
+    c
+}
+
+// The term at at.
+fn read_term(s: &[u8], at: usize) -> TermRead
+    requires { ⌜ Good term isTerm (now s) at ⌝ }
+    ensures { λ r. ⌜ TermAt (now (s .entry)) at r ⌝ }
+{
+    let negative = s[at] == b'-';
+    let m = take_decimal(s, behind_sign(at, negative));
+    let v = read_variables(s, m.end);
+    let c = signed(m.value, negative);
+    let set = v.set;
+    TermRead {
+        term: terms::term_of(set, c),
+        end: v.end,
+    }
+}
+
+// Puts the term at at behind the n terms of out, and gives its end.
+fn append_term(s: &[u8], at: usize, out: &mut [u64], n: usize) -> usize
+    requires { ⌜ Good term isTerm (now s) at × ((n + 1) * termWords ≤ length (now out)) ⌝ }
+    ensures { λ r. ⌜ Appended (now (s .entry)) at n (now (out .entry)) (now (out .exit)) r ⌝ }
+{
+    let t = read_term(s, at);
+    let term = t.term;
+    terms::write_term(out, n * limits::TERM_WORDS, term);
+    t.end
+}
+
+// Puts the terms at at, each behind a space, behind the first term of out.
+fn read_rest(s: &[u8], at: usize, out: &mut [u64]) -> FieldRun
+    requires { ⌜ Good moreTerms isRest (now s) at × (fieldTerms * termWords ≤ length (now out)) ⌝ }
+    ensures { λ r. ⌜ RestAt (now (s .entry)) at (now (out .entry)) (now (out .exit)) r ⌝ }
+{
+    let mut n = 1;
+    let mut i = at;
+    while i < s.len() {
+        if s[i] != b' ' {
+            return FieldRun { terms: n, end: i };
+        }
+        i = append_term(s, i + 1, out, n);
+        n += 1;
+    }
+    FieldRun { terms: n, end: i }
+}
+
+// The field at at, as a run at the front of out. Only the zero polynomial begins with a zero.
+pub fn read_field(s: &[u8], at: usize, out: &mut [u64]) -> FieldRun
+    requires { ⌜ Good polynomial isField (now s) at × (fieldTerms * termWords ≤ length (now out)) ⌝ }
+    ensures { λ r. ⌜ FieldAt (now (s .entry)) at (now (out .entry)) (now (out .exit)) r ⌝ }
+{
+    if s[at] == b'0' {
+        return FieldRun {
+            terms: 0,
+            end: at + 1,
+        };
+    }
+    let first = append_term(s, at, out, 0);
+    read_rest(s, first, out)
+}

@@ -1,0 +1,6 @@
+pub mod Search
+pub mod Numbers
+pub mod Scans
+pub mod Polynomials
+pub mod Fields
+pub mod Lines

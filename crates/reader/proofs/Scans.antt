@@ -1,0 +1,127 @@
+-- Scans of readers in a row, and of as many items as follow. Assumes nothing.
+use mathlib.Core.Path.{_≡_, refl, sym, ap, ap₂, _∙_}
+use mathlib.Core.Bool.{Bool, true, false, _&&_, not, cond}
+use mathlib.Core.List.{List, [], _∷_, _++_, append-assoc, append-nil}
+use Prim.Native.Nat.{ℕ, _+_, _≤_, _<_}
+use native.Mathlib.Omega.{arith}
+use lib.ListN.{length, drop, getD}
+use Rattle.ground.specs.Lists.{every}
+use Rattle.paper.specs.Text.{Bytes}
+use Rattle.paper.specs.Reader.{Read, got, stuck, Reader, next, give, each}
+use Rattle.paper.proofs.Reading.{next-assoc, Takes, each-more, each-stuck, every-append}
+use Rattle.reader.specs.Places.{Got, Fails}
+use Rattle.reader.specs.Fields.{Scanned, Scans}
+use Rattle.reader.specs.declared.field.FieldScan.{FieldScan}
+use Rattle.reader.specs.declared.field.FieldScan.the-variants.{Field, Stuck}
+
+-- ---- one reader after the other
+module _ {A B : Type 0} (read : Reader A) (f : A → Reader B) {s : Bytes} {at : ℕ} where
+  pub got-then : {m : ℕ} {x : A} {y : B} {e : ℕ} → Got read s at x m → Got (f x) s m y e → Got (λ r. next (read r) f) s at y e
+  got-then g h =
+      let a = g .onward in
+      let b = h .onward in
+      record { reads = ap (λ (r : Read A). next r f) (g .reads) ∙ h .reads; onward = omega arith; inside = h .inside }
+
+  pub fails-then : {m : ℕ} {x : A} {p : ℕ} → Got read s at x m → Fails (f x) s m p → Fails (λ r. next (read r) f) s at p
+  fails-then g h =
+      let a = g .onward in
+      let b = h .onward in
+      record { reads = ap (λ (r : Read A). next r f) (g .reads) ∙ h .reads; onward = omega arith; inside = h .inside }
+
+  pub fails-first : {p : ℕ} → Fails read s at p → Fails (λ r. next (read r) f) s at p
+  fails-first h = record { reads = ap (λ (r : Read A). next r f) (h .reads); onward = h .onward; inside = h .inside }
+
+pub got-give : {A : Type 0} (x : A) {s : Bytes} {at : ℕ} → at ≤ length s → Got (give x) s at x at
+got-give x {s} {at} h = record { reads = refl; onward = omega arith; inside = h }
+
+-- ---- an answer taken apart
+module _ {A : Type 0} {read : Reader A} {ranged few : A → Bool} {s : Bytes} {at : ℕ} {r : FieldScan} (h : Scans read ranged few s at r) where
+  pub scanned : {e : ℕ} {a b : Bool} → r ≡ Field e a b → Scanned read ranged few s at e a b
+  scanned q = rw q at (h .said)
+
+  pub stopped : {p : ℕ} → r ≡ Stuck p → Fails read s at p
+  stopped q = rw q at (h .said)
+
+  -- what stops one reader stops another
+  pub pass-on : {B : Type 0} {read′ : Reader B} {ranged′ few′ : B → Bool} {at′ p : ℕ} → r ≡ Stuck p → (Fails read s at p → Fails read′ s at′ p)
+      → Scans read′ ranged′ few′ s at′ r
+  pass-on q f = rw q (record { said = f (stopped q) })
+
+-- ---- as many items as follow
+next-give : {A : Type 0} (r : Read A) → r ≡ next r (λ x s. got x s)
+next-give (got x s) = refl
+next-give (stuck s) = refl
+
+pub next-same : {A B : Type 0} (r : Read A) (f g : A → Reader B) → ((x : A) (s : Bytes) → f x s ≡ g x s) → next r f ≡ next r g
+next-same (got x s) f g h = h x s
+next-same (stuck s) f g h = refl
+
+-- some items stand from at up to i, P holds of them, and what is left to read is at i
+pub record Passed {A : Type 0} (c : ℕ) (item : Reader A) (P : List A → Type 0) (s : Bytes) (at i : ℕ) : Type 0 where
+  pub items : List A
+  pub reads : each c item (drop at s) ≡ next (each c item (drop i s)) (λ xs r. got (items ++ xs) r)
+  pub onward : at ≤ i
+  pub inside : i ≤ length s
+  pub holds : P items
+
+module _ {A : Type 0} (c : ℕ) (item : Reader A) (s : Bytes) (at : ℕ) where
+  pub passed-none : {P : List A → Type 0} → at ≤ length s → P [] → Passed c item P s at at
+  passed-none h p = record { items = []; reads = next-give (each c item (drop at s)); onward = omega arith; inside = h; holds = p }
+
+  module _ {P : List A → Type 0} (i : ℕ) (p : Passed c item P s at i) (h : i < length s) (b : getD s i 0 ≡ c) where
+    pub passed-more : {Q : List A → Type 0} {allowed : ℕ → Bool} {n : ℕ} {x : A} {e : ℕ} → Takes allowed n item → Got item s (i + 1) x e
+        → ((xs : List A) → P xs → Q (xs ++ (x ∷ []))) → Passed c item Q s at e
+    passed-more {Q} {allowed} {n} {x} {e} t g f =
+        let a = p .onward in
+        let o = g .onward in
+        record {
+          items = p .items ++ (x ∷ []);
+          reads =
+              p .reads
+              ∙ ap (λ (r : Read (List A)). next r (λ xs r. got (p .items ++ xs) r)) (each-more c item t s i h b x (drop e s) (g .reads))
+              ∙ next-assoc (each c item (drop e s)) (λ xs r. got (x ∷ xs) r) (λ xs r. got (p .items ++ xs) r)
+              ∙ next-same (each c item (drop e s)) (λ xs r. got (p .items ++ (x ∷ xs)) r) (λ xs r. got ((p .items ++ (x ∷ [])) ++ xs) r)
+              (λ xs r. ap (λ (l : List A). got l r) (sym (append-assoc (p .items) (x ∷ []) xs)));
+          onward = omega arith;
+          inside = g .inside;
+          holds = f (p .items) (p .holds);
+        }
+
+    pub passed-stuck : {q : ℕ} → Fails item s (i + 1) q → Fails (each c item) s at q
+    passed-stuck {q} g =
+        let a = p .onward in
+        let o = g .onward in
+        record {
+          reads = p .reads ∙ ap (λ (r : Read (List A)). next r (λ xs r. got (p .items ++ xs) r)) (each-stuck c item s i h b (drop q s) (g .reads));
+          onward = omega arith;
+          inside = g .inside;
+        }
+
+  pub passed-stop : {P : List A → Type 0} (i : ℕ) (p : Passed c item P s at i) → each c item (drop i s) ≡ got [] (drop i s) → Got (each c item) s at (p .items) i
+  passed-stop i p e =
+      record {
+        reads = p .reads ∙ ap (λ (r : Read (List A)). next r (λ xs r. got (p .items ++ xs) r)) e ∙ ap (λ (l : List A). got l (drop i s)) (append-nil (p .items));
+        onward = p .onward;
+        inside = p .inside;
+      }
+
+-- the items all told
+pub passed-scans : {A : Type 0} (c : ℕ) (item : Reader A) (s : Bytes) (at : ℕ) {P : List A → Type 0} (ranged few : List A → Bool) {a b : Bool} (i : ℕ)
+    → Passed c item P s at i → each c item (drop i s) ≡ got [] (drop i s) → ((xs : List A) → P xs → (a ≡ ranged xs) × (b ≡ few xs))
+    → Scans (each c item) ranged few s at (Field i a b)
+passed-scans c item s at ranged few i p e f =
+    let h = f (p .items) (p .holds) in
+    record { said = record { value = p .items; taken = passed-stop c item s at i p e; inside = h .0; short = h .1 } }
+
+pub every-none : {A : Type 0} (f : A → Bool) → true ≡ every f []
+unfolding every
+every-none f = refl
+
+-- a test of every item, one more at the end
+pub every-more : {A : Type 0} (f : A → Bool) (xs : List A) (x : A) (a b : Bool) → a ≡ every f xs → b ≡ f x → (a && b) ≡ every f (xs ++ (x ∷ []))
+unfolding every
+every-more f xs x a b p q = rw (every-append f xs (x ∷ [])) (ap₂ _&&_ p (q ∙ go (f x)))
+  where
+    go : (b : Bool) → b ≡ (b && true)
+    go true = refl
+    go false = refl

@@ -1,0 +1,79 @@
+-- `reader::number::decimal_at` meets its contract: the first byte decides, and digits that begin with no 0 go on. No loop.
+-- Assumes nothing.
+use native.Mathlib.Omega.{arith}
+use Prim.Native.Nat.{_+_, _-_}
+use lib.ListN.{getD}
+use Rattle.paper.specs.Grammar.{digits, decimal}
+use Rattle.paper.proofs.Reading.{decimal-zero, decimal-first, decimal-low, decimal-high, decimal-end}
+use Rattle.reader.proofs.Numbers.{decimal-by}
+use borrow.Author.Needs.{needs}
+use Rattle.reader.proofs.number.decimal_at.Statement.{statement}
+use Rattle.reader.proofs.number.decimal_at.Tie as tie
+use Rattle.reader.proofs.number.decimal_at.Reads as reads
+use Rattle.reader.proofs.number.decimal_at.Lts as lts
+use Rattle.reader.proofs.number.digits_from.Reads as digits-from-reads
+
+-- src/number.rt:86:9
+returns : tie.Need-returns
+returns c = let a = c .before .before .args in record { reads = decimal-end (a .s .now) (a .at) (omega arith); onward = omega arith; inside = omega arith }
+
+-- src/number.rt:88:13
+shared-slice-read-b : tie.Need-shared-slice-read-b
+shared-slice-read-b c = search needs
+
+-- src/number.rt:90:9
+returns-2 : tie.Need-returns-2
+returns-2 c =
+    let a = c .before .before .before .before .args in
+    record { reads = decimal-low (a .s .now) (a .at) (omega arith) (c .if2 .taken); onward = omega arith; inside = omega arith }
+
+-- src/number.rt:93:9
+returns-3 : tie.Need-returns-3
+returns-3 c =
+    let a = c .before .before .before .before .before .args in
+    record { reads = decimal-high (a .s .now) (a .at) (omega arith) (c .if3 .taken); onward = omega arith; inside = omega arith }
+
+-- src/number.rt:96:34
+add-t8 : tie.Need-add-t8
+add-t8 c = search needs
+
+-- src/number.rt:96:9
+returns-4 : tie.Need-returns-4
+returns-4 c =
+    let a = c .before .before .before .before .before .before .args in
+    record { reads = decimal-zero (a .s .now) (a .at) (omega arith) (c .if4 .taken); onward = omega arith; inside = omega arith }
+
+-- src/number.rt:98:20
+add-digits-from : tie.Need-add-digits-from
+add-digits-from c = search needs
+
+-- src/number.rt:98:28
+cast-digits-from : tie.Need-cast-digits-from
+cast-digits-from c = search needs
+
+-- src/number.rt:98:5
+digits-from-requires : tie.Need-digits-from-requires
+digits-from-requires c κs = search needs
+
+-- src/number.rt:81:1
+returns-5 : tie.Need-returns-5
+returns-5 c =
+    let a = c .before .before .before .before .before .before .before .args in
+    decimal-by decimal (digits (getD (a .s .now) (a .at) 0 - 48)) (a .s .now) (a .at) (a .at + 1)
+    (decimal-first (a .s .now) (a .at) (omega arith) (omega arith) (omega arith))
+    (omega arith) (c .digits-from .result) (c .digits-from .ensures)
+
+pub decimal-at-spec : {M : Type 1} → statement M
+decimal-at-spec =
+    tie.close
+    (tie.spec
+    returns
+    shared-slice-read-b
+    returns-2
+    returns-3
+    add-t8
+    returns-4
+    add-digits-from
+    cast-digits-from
+    digits-from-requires
+    returns-5)

@@ -1,0 +1,5 @@
+pub mod Places
+pub mod Search
+pub mod Numbers
+pub mod Fields
+pub mod Lines

@@ -1,0 +1,55 @@
+-- What a decimal and a number in a range are, said of the code's answers.
+use mathlib.Core.Path.{_≡_}
+use mathlib.Core.Bool.{true, false}
+use mathlib.Core.Logic.{_⊎_}
+use Prim.Native.Nat.{ℕ, _^_, _≤_}
+use lib.ListN.{length, drop}
+use Rattle.limits.specs.Verdicts.{FORM, NUMBER}
+use Rattle.paper.specs.Text.{Bytes}
+use Rattle.paper.specs.Reader.{Reader, got}
+use Rattle.paper.specs.Grammar.{digits, decimal}
+use Rattle.paper.specs.Meaning.{within}
+use Rattle.reader.specs.Places.{Got, Fails}
+use Rattle.reader.specs.declared.number.Decimal.{Decimal}
+use Rattle.reader.specs.declared.number.Decimal.the-variants.{Value, Large, Stuck}
+use Rattle.reader.specs.declared.number.Number.{Number}
+use Rattle.reader.specs.declared.number.Number.the-variants.{Value as Ranged, Refused}
+
+-- a number that no word holds ends at e
+pub record TooLarge (read : Reader ℕ) (s : Bytes) (at e : ℕ) : Type 0 where
+  pub value : ℕ
+  pub large : 2 ^ 64 ≤ value
+  pub taken : Got read s at value e
+
+abbrev pub DecimalIs : Reader ℕ → Bytes → ℕ → Decimal → Type 0
+DecimalIs read s at (Value n e) = Got read s at n e
+DecimalIs read s at (Large e) = TooLarge read s at e
+DecimalIs read s at (Stuck p) = Fails read s at p
+
+-- the digits from at on end at e, whatever stands before them
+pub record DigitsEnd (s : Bytes) (at e : ℕ) : Type 0 where
+  pub value : ℕ → ℕ
+  pub reads : (v : ℕ) → digits v (drop at s) ≡ got (value v) (drop e s)
+  pub onward : at ≤ e
+  pub inside : e ≤ length s
+
+-- a decimal outside a range is NUMBER, no decimal is FORM
+abbrev pub refusalOf : Decimal → Number
+refusalOf (Value n e) = Refused NUMBER e
+refusalOf (Large e) = Refused NUMBER e
+refusalOf (Stuck p) = Refused FORM p
+
+-- a decimal with the test's answer ends at e
+pub record InRange (low high : ℕ) (s : Bytes) (at v e : ℕ) : Type 0 where
+  pub above : low ≤ v
+  pub below : v ≤ high
+  pub taken : Got decimal s at v e
+
+pub record OutOfRange (low high : ℕ) (s : Bytes) (at e : ℕ) : Type 0 where
+  pub value : ℕ
+  pub outside : within low high value ≡ false
+  pub taken : Got decimal s at value e
+
+abbrev pub NumberIs : ℕ → ℕ → Bytes → ℕ → Number → Type 0
+NumberIs low high s at (Ranged v e) = InRange low high s at v e
+NumberIs low high s at (Refused why e) = ((why ≡ NUMBER) × OutOfRange low high s at e) ⊎ ((why ≡ FORM) × Fails decimal s at e)

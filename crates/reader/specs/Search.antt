@@ -1,0 +1,45 @@
+-- Where a byte first stands, and where a line of a text and a field of a line end.
+use mathlib.Core.Path.{_≡_}
+use mathlib.Core.Bool.{Bool, true, false, not}
+use mathlib.Core.List.{[], _∷_}
+use Prim.Native.Nat.{ℕ, _+_, _≤_, _<_}
+use Prim.Native.Char.{code}
+use lib.Dec.{eqb}
+use lib.ListN.{length, drop, getD}
+use Rattle.ground.specs.Lists.{every}
+use Rattle.paper.specs.Text.{Bytes, Line, lines}
+use Rattle.paper.specs.Reader.{got}
+use Rattle.paper.specs.Statement.{Written}
+use Rattle.paper.specs.Grammar.{polynomial}
+use Rattle.reader.specs.Places.{part, Got}
+
+-- r is the place of the first b from at on, or the length
+pub record FirstAt (b : ℕ) (s : Bytes) (at r : ℕ) : Type 0 where
+  pub onward : at ≤ r
+  pub inside : r ≤ length s
+  pub found : r < length s → getD s r 0 ≡ b
+  pub none : every (λ x. not (eqb x b)) (part s at r) ≡ true
+
+-- the line that begins at at ends at r: before its byte 10, or without one
+pub record LineEnd (text : Bytes) (at r : ℕ) : Type 0 where
+  pub onward : at ≤ r
+  pub inside : r ≤ length text
+  pub ended : r < length text → lines (drop at text) ≡ record { content = part text at r; ended = true } ∷ lines (drop (r + 1) text)
+  pub last : at < length text → length text ≤ r → lines (drop at text) ≡ record { content = part text at r; ended = false } ∷ []
+
+-- nothing, or a tab first
+abbrev pub EndsField : Bytes → Type 0
+EndsField [] = Unit {0}
+EndsField (b ∷ r) = b ≡ code "\t"
+
+-- a polynomial stands at at, and a tab or nothing behind it
+pub record WholeField (s : Bytes) (at : ℕ) : Type 0 where
+  pub written : Written
+  pub rest : Bytes
+  pub reads : polynomial (drop at s) ≡ got written rest
+  pub ends : EndsField rest
+
+-- the polynomial at at ends at r
+pub record FieldEnd (s : Bytes) (at r : ℕ) : Type 0 where
+  pub written : Written
+  pub taken : Got polynomial s at written r
