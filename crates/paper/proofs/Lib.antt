@@ -6,3 +6,4 @@ pub mod Store
 pub mod Counts
 pub mod Judging
 pub mod Reading
+pub mod Running
