@@ -3,7 +3,7 @@ use mathlib.Core.Path.{_≡_, refl, sym, ap, ap₂, _∙_}
 use mathlib.Core.Bool.{Bool, true, false, cond}
 use mathlib.Core.Logic.{_⊎_, inl, inr, ⊎-elim}
 use mathlib.Core.List.{List, [], _∷_}
-use Prim.Native.Nat.{ℕ, suc, _+_, _-_, _≤_, _<_}
+use Prim.Native.Nat.{ℕ, suc, _+_, _≤_, _<_}
 use Prim.Native.Char.{code}
 use native.Mathlib.Numerals.{add-one}
 use native.Mathlib.Omega.{arith}
@@ -14,10 +14,9 @@ use Rattle.paper.specs.Reader.{Read, got, stuck, Reader, next, give, literal, e
 use Rattle.paper.specs.Statement.{Written, Pair, Statement, ring, input, goal, lin, del, ext}
 use Rattle.paper.specs.Grammar.{decimal, polynomial, tab, number, field, pair, kinds, beginsAlike, oneOf, stopShort, statement}
 use Rattle.paper.specs.Grammar.{Kind as LineKind}
-use Rattle.paper.proofs.Reading.{next-assoc, parted, Takes, literal-inside, takes-decimal, takes-polynomial, takes-pair, each-more}
+use Rattle.paper.proofs.Reading.{next-assoc, parted, Takes, literal-inside, takes-decimal, takes-polynomial, takes-pair, each-parts, each-more}
 use Rattle.reader.specs.Places.{Got}
 use Rattle.reader.specs.Lines.{headed, morePairs, rings, inputs, goals, lins, dels, exts, kindOf}
-use Rattle.reader.specs.declared.line.Kind.{Kind}
 use Rattle.reader.specs.declared.line.Kind.the-variants.{Ring, Input, Goal, Lin, Del, Ext}
 
 -- ---- places of readings
@@ -40,6 +39,26 @@ same-end read s at {x} {y} {d} {e} g h =
     let j = h .inside in
     let l : drop d s ≡ drop e s = cc in
     ((cc), omega (arith, ap length l, length-drop d s, length-drop e s))
+
+-- of as many items as follow, the first stands behind the byte c at i and ends at place
+pub record FirstItem {A : Type 0} (c : ℕ) (item : Reader A) (s : Bytes) (i : ℕ) (x : A) (xs : List A) (r : Bytes) : Type 0 where
+  pub inside : i < length s
+  pub separator : getD s i 0 ≡ c
+  pub place : ℕ
+  pub taken : Got item s (i + 1) x place
+  pub others : each c item (drop place s) ≡ got xs r
+
+pub first-item : {A : Type 0} {allowed : ℕ → Bool} {n : ℕ} (c : ℕ) (item : Reader A) → Takes allowed n item → (s : Bytes) (i : ℕ) (x : A) (xs : List A) (r : Bytes)
+    → each c item (drop i s) ≡ got (x ∷ xs) r → FirstItem c item s i x xs r
+first-item c item t s i x xs r e =
+    let p = each-parts c item t (drop i s) x xs r e in
+    let l : i < length s = omega (arith, ap length (p .begins), length-drop i s) in
+    let d = drop-cons s i 0 l in
+    let b : getD s i 0 ≡ c = (let w = p .begins in cc) in
+    let n : drop (suc i) s ≡ p .inner = (let w = p .begins in cc) in
+    let f : item (drop (i + 1) s) ≡ got x (p .behind) = rw (add-one i) (ap item n ∙ p .first) in
+    let g = placed item t s (i + 1) (omega arith) x (p .behind) f in
+    record { inside = l; separator = b; place = g .0; taken = g .2; others = ap (each c item) (sym (g .3)) ∙ p .others }
 
 -- a tab stands at m, and x is read behind it
 pub record Tabbed {A : Type 0} (read : Reader A) (s : Bytes) (m : ℕ) (x : A) (r : Bytes) : Type 0 where
@@ -69,6 +88,26 @@ tabbed-number s m e = tabbed decimal s m e
 tabbed-field : (s : Bytes) (m : ℕ) {p : Written} {r : Bytes} → field (drop m s) ≡ got p r → Tabbed polynomial s m p r
 unfolding field
 tabbed-field s m e = tabbed polynomial s m e
+
+-- the index and the factor of a pair; r is what they leave
+pub record PairAt (s : Bytes) (at : ℕ) (q : Pair) (r : Bytes) : Type 0 where
+  pub middle : ℕ
+  pub index : Got decimal s at (q .index) middle
+  pub factor : Tabbed polynomial s middle (q .factor) r
+
+pub pair-at : (s : Bytes) (at : ℕ) → at ≤ length s → (q : Pair) (r : Bytes) → pair (drop at s) ≡ got q r → PairAt s at q r
+unfolding pair
+pair-at s at h q r e =
+    let i = parted (decimal (drop at s)) _ e in
+    let f = parted (field (i .rest)) _ (i .second) in
+    let x : record { index = i .value; factor = f .value } ≡ q = (let w = f .second in cc) in
+    let z : f .rest ≡ r = (let w = f .second in cc) in
+    let g = placed decimal takes-decimal s at h (q .index) (i .rest) (i .first ∙ ap (λ (p : Pair). got (p .index) (i .rest)) x) in
+    record {
+      middle = g .0;
+      index = g .2;
+      factor = tabbed-field s (g .0) (ap field (sym (g .3)) ∙ f .first ∙ ap₂ (λ (p : Pair) (l : Bytes). got (p .factor) l) x z);
+    }
 
 -- what a keyword leaves
 behind-word : {A : Type 0} (w s : Bytes) (read : Reader A) {x : A} {r : Bytes} → next (literal w s) (λ _. read) ≡ got x r → read (drop (length w) s) ≡ got x r
@@ -119,30 +158,27 @@ numbered s m n r q =
     let g = placed decimal takes-decimal s (m + 1) (omega arith) n r (t .reads) in
     (g .0, omega (arith, g .1), record { inside = l; tab = t .tab; reads = g .2 .reads }, g .3)
 
+-- a kind with one field
+one-field : {A : Type 0} (w : Bytes) (read : Reader A) (kind : A → Statement) (s : Bytes) (st : Statement) (r : Bytes)
+    → next (literal w s) (λ _ t. next (read t) (λ x. give (kind x))) ≡ got st r → (x : A) × (kind x ≡ st) × (read (drop (length w) s) ≡ got x r)
+one-field w read kind s st r e =
+    let p = parted (read (drop (length w) s)) (λ x. give (kind x)) (behind-word w s (λ t. next (read t) (λ x. give (kind x))) e) in
+    let q : kind (p .value) ≡ st = (let w = p .second in cc) in
+    let z : p .rest ≡ r = (let w = p .second in cc) in
+    (p .value, q, p .first ∙ ap (λ (l : Bytes). got (p .value) l) z)
+
 module _ (s : Bytes) (st : Statement) (r : Bytes) where
   pub ring-fields : headed rings s ≡ got st r → (kindOf st ≡ Ring) × FieldsAt s r st
   unfolding bytes
-  ring-fields e =
-      let p = parted (number (drop 4 s)) (λ k. give (ring k)) (behind-word (bytes "ring") s (rings .fields) e) in
-      let q : ring (p .value) ≡ st = (let w = p .second in cc) in
-      let z : p .rest ≡ r = (let w = p .second in cc) in
-      rw (← q) (refl, tabbed-number s 4 (p .first ∙ ap (λ (l : Bytes). got (p .value) l) z))
+  ring-fields e = let f = one-field (bytes "ring") number (λ k. ring k) s st r e in rw (← f .1) (refl, tabbed-number s 4 (f .2))
 
   pub del-fields : headed dels s ≡ got st r → (kindOf st ≡ Del) × FieldsAt s r st
   unfolding bytes
-  del-fields e =
-      let p = parted (number (drop 3 s)) (λ i. give (del i)) (behind-word (bytes "del") s (dels .fields) e) in
-      let q : del (p .value) ≡ st = (let w = p .second in cc) in
-      let z : p .rest ≡ r = (let w = p .second in cc) in
-      rw (← q) (refl, tabbed-number s 3 (p .first ∙ ap (λ (l : Bytes). got (p .value) l) z))
+  del-fields e = let f = one-field (bytes "del") number (λ i. del i) s st r e in rw (← f .1) (refl, tabbed-number s 3 (f .2))
 
   pub goal-fields : headed goals s ≡ got st r → (kindOf st ≡ Goal) × FieldsAt s r st
   unfolding bytes
-  goal-fields e =
-      let p = parted (field (drop 4 s)) (λ p. give (goal p)) (behind-word (bytes "goal") s (goals .fields) e) in
-      let q : goal (p .value) ≡ st = (let w = p .second in cc) in
-      let z : p .rest ≡ r = (let w = p .second in cc) in
-      rw (← q) (refl, tabbed-field s 4 (p .first ∙ ap (λ (l : Bytes). got (p .value) l) z))
+  goal-fields e = let f = one-field (bytes "goal") field (λ p. goal p) s st r e in rw (← f .1) (refl, tabbed-field s 4 (f .2))
 
   pub input-fields : headed inputs s ≡ got st r → (kindOf st ≡ Input) × FieldsAt s r st
   unfolding bytes

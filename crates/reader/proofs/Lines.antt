@@ -1,18 +1,16 @@
 -- Fields behind tabs, pairs, keywords and whole lines as they are scanned. Assumes nothing.
 use mathlib.Core.Path.{_≡_, refl, sym, ap, ap₂, _∙_, subst}
 use mathlib.Core.Bool.{Bool, true, false, _&&_, _||_, not, cond}
-use mathlib.Core.Logic.{⊎-elim}
-use mathlib.Core.List.{List, [], _∷_, _++_, map}
+use mathlib.Core.List.{List, [], _∷_, map}
 use Prim.Native.Nat.{ℕ, suc, _+_, _≤_, _<_}
-use native.Mathlib.Nat.{not-suc-le-zero}
 use native.Mathlib.Numerals.{add-one}
 use native.Mathlib.Omega.{arith}
-use lib.Dec.{eqb, ltb}
+use lib.Dec.{ltb}
 use lib.ListN.{length, drop, getD, drop-of-length-le}
 use lib.Seq.{drop-cons, drop-length}
 use borrow.Author.Tests.{ltb-true, ltb-false, eq-eqb, ne-eqb}
 use Rattle.ground.specs.Lists.{every, any}
-use Rattle.ground.proofs.Tests.{split, by-cond}
+use Rattle.ground.proofs.Tests.{by-cond}
 use Rattle.limits.specs.Limits.{greatestRing, greatestIndex}
 use Rattle.limits.specs.Verdicts.{ACCEPTED, NUMBER, TERMS}
 use Rattle.paper.specs.Text.{Bytes, bytes}
@@ -28,12 +26,11 @@ use Rattle.reader.specs.Lines.{pairRanged, pairFew, morePairs, pairs, be
 use Rattle.reader.specs.declared.field.FieldScan.{FieldScan}
 use Rattle.reader.specs.declared.field.FieldScan.the-variants.{Field, Stuck as Stopped}
 use Rattle.reader.specs.declared.line.Kind.{Kind}
-use Rattle.reader.specs.declared.line.Kind.the-variants.{Ring, Input, Goal, Lin, Del, Ext}
 use Rattle.reader.specs.declared.line.LineScan.{LineScan}
 use Rattle.reader.specs.declared.line.LineScan.the-variants.{Line, Stuck}
 use Rattle.reader.proofs.Scans.{got-then, fails-then, fails-first, got-give, next-same}
 use Rattle.reader.proofs.Polynomials.{variable-range}
-use Rattle.reader.proofs.Fields.{whole, closing, ring-fields, input-fields, goal-fields, lin-fields, del-fields, ext-fields}
+use Rattle.reader.proofs.Fields.{FieldsAt, whole, closing}
 
 -- ---- one scan as another
 module _ {A B : Type 0} {read : Reader A} {read′ : Reader B} {ranged few : A → Bool} (ranged′ few′ : B → Bool) {s : Bytes} {at at′ : ℕ} (h : A → B) where
@@ -42,7 +39,7 @@ module _ {A B : Type 0} {read : Reader A} {read′ : Reader B} {ranged few : A �
       → Scans read′ ranged′ few′ s at′ r
   scans-as (Field e a b) r f g i j =
       let c = r .said in
-      record { said = record { value = h (c .value); taken = g (c .value) e (c .taken); inside = c .inside ∙ i (c .value); short = c .short ∙ j (c .value) } }
+      record { said = record { value = h (c .value); taken = g (c .value) e (c .taken); in-range = c .in-range ∙ i (c .value); short = c .short ∙ j (c .value) } }
   scans-as (Stopped p) r f g i j = record { said = f p (r .said) }
 
 -- ---- behind a tab
@@ -92,7 +89,7 @@ pair-scans i f =
       said = record {
         value = record { index = i .value; factor = f .value };
         taken = got-then decimal _ (i .taken) (got-then field _ (f .taken) (got-give _ (f .taken .inside)));
-        inside = ap₂ _&&_ (i .inside) (f .inside);
+        in-range = ap₂ _&&_ (i .in-range) (f .in-range);
         short = f .short;
       };
     }
@@ -118,7 +115,7 @@ module _ {s : Bytes} {at : ℕ} (t : Got tab s at tt (at + 1)) where
         said = record {
           value = q .value ∷ qs .value;
           taken = got-then tab _ t (got-then pair _ (q .taken) (got-then morePairs _ (qs .taken) (got-give _ (qs .taken .inside))));
-          inside = ap₂ _&&_ (q .inside) (qs .inside);
+          in-range = ap₂ _&&_ (q .in-range) (qs .in-range);
           short = ap₂ _&&_ (q .short) (qs .short);
         };
       }
@@ -287,7 +284,7 @@ module _ {s : Bytes} where
         said = record {
           value = input (i .value) (p .value);
           taken = indexed-got (bytes "in") _ (i .taken) (got-then field _ (p .taken) (got-give (input (i .value) (p .value)) (p .taken .inside)));
-          inside = ap₂ _&&_ (i .inside) (p .inside) ∙ ranged-input (i .value) (p .value);
+          in-range = ap₂ _&&_ (i .in-range) (p .in-range) ∙ ranged-input (i .value) (p .value);
           short = p .short ∙ few-one (p .value);
         };
       }
@@ -311,7 +308,7 @@ module _ {s : Bytes} where
         said = record {
           value = ext (i .value) (v .value) (p .value);
           taken = indexed-got (bytes "ext") _ (i .taken) (got-then number _ (v .taken) (got-then field _ (p .taken) (got-give (ext (i .value) (v .value) (p .value)) (p .taken .inside))));
-          inside = ap₂ _&&_ (ap₂ _&&_ (i .inside) (v .inside ∙ variable-range (v .value))) (p .inside) ∙ ranged-ext (i .value) (v .value) (p .value);
+          in-range = ap₂ _&&_ (ap₂ _&&_ (i .in-range) (v .in-range ∙ variable-range (v .value))) (p .in-range) ∙ ranged-ext (i .value) (v .value) (p .value);
           short = p .short ∙ few-one (p .value);
         };
       }
@@ -339,7 +336,7 @@ module _ {s : Bytes} where
         said = record {
           value = lin (i .value) (p .value) (qs .value);
           taken = indexed-got (bytes "lin") _ (i .taken) (got-then field _ (p .taken) (record { reads = sym (pairs-then (drop j s) f) ∙ k .reads; onward = k .onward; inside = k .inside }));
-          inside = ap₂ _&&_ (i .inside) (ap₂ _&&_ (p .inside) (qs .inside)) ∙ ranged-lin (i .value) (p .value) (qs .value);
+          in-range = ap₂ _&&_ (i .in-range) (ap₂ _&&_ (p .in-range) (qs .in-range)) ∙ ranged-lin (i .value) (p .value) (qs .value);
           short = ap₂ _&&_ (p .short) (qs .short) ∙ few-lin (p .value) (qs .value);
         };
       }
@@ -369,45 +366,52 @@ module _ {s : Bytes} (k : LineKind) (K : Kind) (here : oneOf kinds s ≡ whole k
         value = c .value;
         reads = here ∙ q ∙ rw d;
         kind = sort (c .value) (drop e s) (c .taken .reads);
-        verdict = same-verdict a b (numbersInRange (c .value)) (any tooManyTerms (fields (c .value))) (c .inside) (c .short);
+        verdict = same-verdict a b (numbersInRange (c .value)) (any tooManyTerms (fields (c .value))) (c .in-range) (c .short);
       })
 
 -- the first byte settles the kind
+pub first-ring : (w : Bytes) → oneOf kinds (114 ∷ w) ≡ whole rings (114 ∷ w)
+unfolding kinds oneOf beginsAlike bytes
+first-ring w = refl
+
+pub first-input : (w : Bytes) → oneOf kinds (105 ∷ w) ≡ whole inputs (105 ∷ w)
+unfolding kinds oneOf beginsAlike bytes
+first-input w = refl
+
+pub first-goal : (w : Bytes) → oneOf kinds (103 ∷ w) ≡ whole goals (103 ∷ w)
+unfolding kinds oneOf beginsAlike bytes
+first-goal w = refl
+
+pub first-lin : (w : Bytes) → oneOf kinds (108 ∷ w) ≡ whole lins (108 ∷ w)
+unfolding kinds oneOf beginsAlike bytes
+first-lin w = refl
+
+pub first-del : (w : Bytes) → oneOf kinds (100 ∷ w) ≡ whole dels (100 ∷ w)
+unfolding kinds oneOf beginsAlike bytes
+first-del w = refl
+
+pub first-ext : (w : Bytes) → oneOf kinds (101 ∷ w) ≡ whole exts (101 ∷ w)
+unfolding kinds oneOf beginsAlike bytes
+first-ext w = refl
+
 module _ (s : Bytes) (h : 0 < length s) where
   begins : (b : ℕ) → getD s 0 0 ≡ b → s ≡ b ∷ drop 1 s
   begins b e = drop-cons s 0 0 h ∙ ap (λ (x : ℕ). x ∷ drop 1 s) e
 
-  module _ (f : FieldScan) where
-    pub ring-line : getD s 0 0 ≡ 114 → Scans (headed rings) numbersInRange fewInFields s 0 f → LineIs s true (closedOf (length s) Ring f)
-    unfolding kinds oneOf beginsAlike bytes
-    ring-line b = line-of rings Ring (subst (λ (l : Bytes). oneOf kinds l ≡ whole rings l) (sym (begins 114 b)) refl) (λ st r e. ring-fields s st r e .0) f
+  pub kind-line : (b : ℕ) (k : LineKind) (K : Kind) → ((w : Bytes) → oneOf kinds (b ∷ w) ≡ whole k (b ∷ w))
+      → ((st : Statement) (r : Bytes) → headed k s ≡ got st r → (kindOf st ≡ K) × FieldsAt s r st) → (f : FieldScan) → getD s 0 0 ≡ b
+      → Scans (headed k) numbersInRange fewInFields s 0 f → LineIs s true (closedOf (length s) K f)
+  kind-line b k K first sort f e =
+      line-of k K (subst (λ (l : Bytes). oneOf kinds l ≡ whole k l) (sym (begins b e)) (first (drop 1 s))) (λ st r q. sort st r q .0) f
 
-    pub input-line : getD s 0 0 ≡ 105 → Scans (headed inputs) numbersInRange fewInFields s 0 f → LineIs s true (closedOf (length s) Input f)
-    unfolding kinds oneOf beginsAlike bytes
-    input-line b = line-of inputs Input (subst (λ (l : Bytes). oneOf kinds l ≡ whole inputs l) (sym (begins 105 b)) refl) (λ st r e. input-fields s st r e .0) f
-
-    pub goal-line : getD s 0 0 ≡ 103 → Scans (headed goals) numbersInRange fewInFields s 0 f → LineIs s true (closedOf (length s) Goal f)
-    unfolding kinds oneOf beginsAlike bytes
-    goal-line b = line-of goals Goal (subst (λ (l : Bytes). oneOf kinds l ≡ whole goals l) (sym (begins 103 b)) refl) (λ st r e. goal-fields s st r e .0) f
-
-    pub lin-line : getD s 0 0 ≡ 108 → Scans (headed lins) numbersInRange fewInFields s 0 f → LineIs s true (closedOf (length s) Lin f)
-    unfolding kinds oneOf beginsAlike bytes
-    lin-line b = line-of lins Lin (subst (λ (l : Bytes). oneOf kinds l ≡ whole lins l) (sym (begins 108 b)) refl) (λ st r e. lin-fields s st r e .0) f
-
-    pub del-line : getD s 0 0 ≡ 100 → Scans (headed dels) numbersInRange fewInFields s 0 f → LineIs s true (closedOf (length s) Del f)
-    unfolding kinds oneOf beginsAlike bytes
-    del-line b = line-of dels Del (subst (λ (l : Bytes). oneOf kinds l ≡ whole dels l) (sym (begins 100 b)) refl) (λ st r e. del-fields s st r e .0) f
-
-    pub ext-line : getD s 0 0 ≡ 101 → Scans (headed exts) numbersInRange fewInFields s 0 f → LineIs s true (closedOf (length s) Ext f)
-    unfolding kinds oneOf beginsAlike bytes
-    ext-line b = line-of exts Ext (subst (λ (l : Bytes). oneOf kinds l ≡ whole exts l) (sym (begins 101 b)) refl) (λ st r e. ext-fields s st r e .0) f
-
-  pub no-line : (getD s 0 0 ≡ 114 → ⊥) → (getD s 0 0 ≡ 105 → ⊥) → (getD s 0 0 ≡ 103 → ⊥) → (getD s 0 0 ≡ 108 → ⊥) → (getD s 0 0 ≡ 100 → ⊥) → (getD s 0 0 ≡ 101 → ⊥) → Halts s true 0
+  pub no-line : (getD s 0 0 ≡ 114 → ⊥) → (getD s 0 0 ≡ 105 → ⊥) → (getD s 0 0 ≡ 103 → ⊥) → (getD s 0 0 ≡ 108 → ⊥) → (getD s 0 0 ≡ 100 → ⊥)
+      → (getD s 0 0 ≡ 101 → ⊥) → Halts s true 0
   unfolding statement kinds oneOf beginsAlike bytes
   no-line r i g l d e =
-      let none : oneOf kinds (getD s 0 0 ∷ drop 1 s) ≡ stuck (getD s 0 0 ∷ drop 1 s) =
-      rw (ne-eqb (getD s 0 0) 114 r, ne-eqb (getD s 0 0) 105 i, ne-eqb (getD s 0 0) 103 g, ne-eqb (getD s 0 0) 108 l, ne-eqb (getD s 0 0) 100 d, ne-eqb (getD s 0 0) 101 e) in
-      record { reads = subst (λ (l : Bytes). oneOf kinds l ≡ stuck l) (sym (begins (getD s 0 0) refl)) none; inside = omega arith }
+      let b : ℕ = getD s 0 0 in
+      let none : oneOf kinds (b ∷ drop 1 s) ≡ stuck (b ∷ drop 1 s) =
+      rw (ne-eqb b 114 r, ne-eqb b 105 i, ne-eqb b 103 g, ne-eqb b 108 l, ne-eqb b 100 d, ne-eqb b 101 e) in
+      record { reads = subst (λ (l : Bytes). oneOf kinds l ≡ stuck l) (sym (begins b refl)) none; inside = omega arith }
 
 pub empty-line : (s : Bytes) → length s ≡ 0 → Halts s true 0
 unfolding statement kinds oneOf beginsAlike bytes

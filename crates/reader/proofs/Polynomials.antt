@@ -3,27 +3,27 @@ use mathlib.Core.Path.{_≡_, refl, sym, ap, ap₂, _∙_}
 use mathlib.Core.Bool.{Bool, true, false, _&&_, not, cond}
 use mathlib.Core.Logic.{_⊎_, ⊎-elim}
 use mathlib.Core.List.{List, [], _∷_, _++_}
-use Prim.Native.Nat.{ℕ, suc, _+_, _-_, _≤_, _<_}
+use Prim.Native.Nat.{ℕ, suc, _+_, _≤_, _<_}
 use Prim.Native.Char.{code}
 use native.Mathlib.Numerals.{add-one}
 use native.Mathlib.Omega.{arith}
-use lib.Dec.{eqb, leb, ltb}
+use lib.Dec.{leb, ltb}
 use lib.ListN.{length, drop, getD, length-drop, length-append, drop-of-length-le}
 use lib.Seq.{drop-cons}
-use borrow.Author.Tests.{leb-true, ltb-true, ltb-false, lt-ltb, le-ltb, le-leb, lt-leb, eq-eqb, ne-eqb}
+use borrow.Author.Tests.{leb-true, ltb-true, ltb-false, lt-ltb, le-ltb, le-leb, eq-eqb, ne-eqb}
 use Rattle.ground.specs.Lists.{every}
 use Rattle.ground.proofs.Tests.{bool-ext, split, and-right, and-both}
 use Rattle.limits.specs.Limits.{variables, greatestMagnitude, fieldTerms}
 use Rattle.paper.specs.Text.{Bytes}
-use Rattle.paper.specs.Reader.{Read, got, Reader, next, each}
-use Rattle.paper.specs.Statement.{WrittenTerm, Written}
+use Rattle.paper.specs.Reader.{got}
+use Rattle.paper.specs.Statement.{WrittenTerm}
 use Rattle.paper.specs.Grammar.{decimal, sign, term, isZero, asWritten, polynomial}
 use Rattle.paper.specs.Meaning.{within, isVariable, isTerm, inRange, tooManyTerms}
-use Rattle.paper.proofs.Reading.{after-length, takes-term, inField, each-none, each-empty, term-zero, zero-term}
+use Rattle.paper.proofs.Reading.{takes-term, inField, each-none, each-empty, term-zero, zero-term}
 use Rattle.reader.specs.Places.{Got, Fails}
 use Rattle.reader.specs.Fields.{moreVariables, moreTerms, always, fewTerms, fewMore, Scanned, Scans, Signed}
-use Rattle.reader.specs.declared.field.FieldScan.the-variants.{Field, Stuck}
-use Rattle.reader.proofs.Scans.{got-then, fails-then, fails-first, got-give, Passed, passed-stop}
+use Rattle.reader.specs.declared.field.FieldScan.the-variants.{Field}
+use Rattle.reader.proofs.Scans.{got-onward, got-then, fails-then, fails-first, got-give}
 
 -- ---- signs
 module _ (s : Bytes) (at : ℕ) where
@@ -68,13 +68,8 @@ pub term-scans : {s : Bytes} {at i j e : ℕ} {a b x y : Bool} (sg : Signed s at
 unfolding isTerm
 term-scans sg m vs =
     record {
-      said = record { value = _; taken = term-got (sg .taken) (m .taken) (vs .taken); inside = ap₂ _&&_ (m .inside) (vs .inside); short = refl };
+      said = record { value = _; taken = term-got (sg .taken) (m .taken) (vs .taken); in-range = ap₂ _&&_ (m .in-range) (vs .in-range); short = refl };
     }
-
-pub term-onward : {s : Bytes} {at e : ℕ} {t : WrittenTerm} → Got term s at t e → at < e
-term-onward {s} {at} {e} {t} g =
-    let i = g .inside in
-    omega (arith, after-length (takes-term (drop at s) t (drop e s) (g .reads)), length-drop at s, length-drop e s)
 
 -- ---- polynomials
 pub polynomial-fails : {s : Bytes} {at p : ℕ} → Fails term s at p → Fails polynomial s at p
@@ -111,8 +106,8 @@ module _ {s : Bytes} {at i : ℕ} {t : WrittenTerm} (g : Got term s at t i) wher
     as-zero : e ≡ at + 1 → getD s at 0 ≡ 48 → asWritten t ts ≡ []
     unfolding asWritten inField
     as-zero q b =
-        let l : at < length s = omega (arith, term-onward g, g .inside) in
-        let n = after-length (takes-term (drop at s) t (drop i s) (g .reads)) in
+        let l : at < length s = omega (arith, got-onward term takes-term g, g .inside) in
+        let n = got-onward term takes-term g in
         let o = h .onward in
         let ei : e ≡ i = omega (arith, length-drop at s, length-drop i s) in
         let ia : i ≡ suc at = omega (arith, add-one at) in
@@ -129,7 +124,7 @@ module _ {s : Bytes} {at i : ℕ} {t : WrittenTerm} (g : Got term s at t i) wher
         one : term (drop at s) ≡ got t (drop i s) → i ≤ length s → moreTerms (drop i s) ≡ got [] (drop e s) → isZero t ≡ true → ⊥
         one r k m z =
             let d = term-zero (drop at s) t (drop i s) r z in
-            let c = drop-cons s at 0 (omega (arith, term-onward g)) in
+            let c = drop-cons s at 0 (omega (arith, got-onward term takes-term g)) in
             let o = h .inside in
             let b : getD s at 0 ≡ 48 = cc in
             q (omega (arith, ap length (each-empty (code " ") term (drop i s) (drop e s) m), ap length d, length-drop at s, length-drop i s, length-drop e s)) b
@@ -144,7 +139,7 @@ module _ {s : Bytes} {at i e : ℕ} {a b x y : Bool} (t : Scanned term isTerm al
   unfolding inRange fewTerms tooManyTerms every
   zero-scans q z =
       let w = as-zero (t .taken) (ts .taken) q z in
-      record { said = record { value = _; taken = polynomial-got (t .taken) (ts .taken); inside = sym (ap inRange w); short = sym (ap fewTerms w) } }
+      record { said = record { value = _; taken = polynomial-got (t .taken) (ts .taken); in-range = sym (ap inRange w); short = sym (ap fewTerms w) } }
 
   pub terms-scans : (e ≡ at + 1 → getD s at 0 ≡ 48 → ⊥) → Scans polynomial inRange fewTerms s at (Field e (a && b) y)
   unfolding inRange every
@@ -154,7 +149,7 @@ module _ {s : Bytes} {at i e : ℕ} {a b x y : Bool} (t : Scanned term isTerm al
         said = record {
           value = _;
           taken = polynomial-got (t .taken) (ts .taken);
-          inside = ap₂ _&&_ (t .inside) (ts .inside) ∙ sym (ap inRange w);
+          in-range = ap₂ _&&_ (t .in-range) (ts .in-range) ∙ sym (ap inRange w);
           short = ts .short ∙ few-more (t .value) (ts .value) ∙ sym (ap fewTerms w);
         };
       }

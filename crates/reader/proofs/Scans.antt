@@ -1,14 +1,14 @@
 -- Scans of readers in a row, and of as many items as follow. Assumes nothing.
 use mathlib.Core.Path.{_≡_, refl, sym, ap, ap₂, _∙_}
-use mathlib.Core.Bool.{Bool, true, false, _&&_, not, cond}
+use mathlib.Core.Bool.{Bool, true, false, _&&_}
 use mathlib.Core.List.{List, [], _∷_, _++_, append-assoc, append-nil}
 use Prim.Native.Nat.{ℕ, _+_, _≤_, _<_}
 use native.Mathlib.Omega.{arith}
-use lib.ListN.{length, drop, getD}
+use lib.ListN.{length, drop, getD, length-drop}
 use Rattle.ground.specs.Lists.{every}
 use Rattle.paper.specs.Text.{Bytes}
 use Rattle.paper.specs.Reader.{Read, got, stuck, Reader, next, give, each}
-use Rattle.paper.proofs.Reading.{next-assoc, Takes, each-more, each-stuck, every-append}
+use Rattle.paper.proofs.Reading.{next-assoc, Takes, after-length, each-more, each-stuck, every-append}
 use Rattle.reader.specs.Places.{Got, Fails}
 use Rattle.reader.specs.Fields.{Scanned, Scans}
 use Rattle.reader.specs.declared.field.FieldScan.{FieldScan}
@@ -33,6 +33,13 @@ module _ {A B : Type 0} (read : Reader A) (f : A → Reader B) {s : Bytes} {at :
 
 pub got-give : {A : Type 0} (x : A) {s : Bytes} {at : ℕ} → at ≤ length s → Got (give x) s at x at
 got-give x {s} {at} h = record { reads = refl; onward = omega arith; inside = h }
+
+-- a reader that takes n bytes or more
+pub got-onward : {A : Type 0} {allowed : ℕ → Bool} {n : ℕ} (read : Reader A) → Takes allowed n read → {s : Bytes} {at : ℕ} {x : A} {e : ℕ} → Got read s at x e → at + n ≤ e
+got-onward read t {s} {at} {x} {e} g =
+    let o = g .onward in
+    let i = g .inside in
+    omega (arith, after-length (t (drop at s) x (drop e s) (g .reads)), length-drop at s, length-drop e s)
 
 -- ---- an answer taken apart
 module _ {A : Type 0} {read : Reader A} {ranged few : A → Bool} {s : Bytes} {at : ℕ} {r : FieldScan} (h : Scans read ranged few s at r) where
@@ -111,7 +118,7 @@ pub passed-scans : {A : Type 0} (c : ℕ) (item : Reader A) (s : Bytes) (at : �
     → Scans (each c item) ranged few s at (Field i a b)
 passed-scans c item s at ranged few i p e f =
     let h = f (p .items) (p .holds) in
-    record { said = record { value = p .items; taken = passed-stop c item s at i p e; inside = h .0; short = h .1 } }
+    record { said = record { value = p .items; taken = passed-stop c item s at i p e; in-range = h .0; short = h .1 } }
 
 pub every-none : {A : Type 0} (f : A → Bool) → true ≡ every f []
 unfolding every

@@ -1,19 +1,19 @@
 -- Parts of a list that grow by one byte, the lines of a text whose first byte 10 is known, and fields whose first tab is. Assumes nothing.
 use mathlib.Core.Path.{_≡_, refl, sym, ap, ap₂, _∙_, subst}
-use mathlib.Core.Bool.{Bool, true, false, _&&_, not, cond}
+use mathlib.Core.Bool.{Bool, true, false, _&&_, not}
 use mathlib.Core.Logic.{⊎-elim}
-use mathlib.Core.List.{List, [], _∷_, _++_}
+use mathlib.Core.List.{[], _∷_, _++_}
 use Prim.Native.Nat.{ℕ, zero, suc, _+_, _-_, _≤_, _<_}
 use native.Mathlib.Nat.{not-suc-le-zero, le-of-suc-le-suc}
 use native.Mathlib.Numerals.{add-one}
 use native.Mathlib.Omega.{arith}
 use lib.Dec.{eqb, ltb}
-use lib.ListN.{length, take, drop, getD, length-drop, take-append-drop, drop-of-length-le}
+use lib.ListN.{length, take, drop, getD, length-drop, take-append-drop}
 use lib.Seq.{drop-cons, drop-drop, take-suc, take-all, getD-drop}
 use borrow.Author.Tests.{ltb-true, ltb-false, eqb-false, ne-eqb, not-true}
 use Rattle.ground.specs.Lists.{every}
 use Rattle.ground.proofs.Tests.{split, and-left, and-right, and-both}
-use Rattle.paper.specs.Text.{Bytes, Line, onFirst, lines}
+use Rattle.paper.specs.Text.{Bytes, onFirst, lines}
 use Rattle.paper.specs.Reader.{got}
 use Rattle.paper.proofs.Reading.{every-append, inField, takes-polynomial}
 use Rattle.reader.specs.Places.{part}

@@ -38,7 +38,7 @@ fewMore ts = ltb (length ts) fieldTerms
 pub record Scanned {A : Type 0} (read : Reader A) (ranged few : A → Bool) (s : Bytes) (at e : ℕ) (a b : Bool) : Type 0 where
   pub value : A
   pub taken : Got read s at value e
-  pub inside : a ≡ ranged value
+  pub in-range : a ≡ ranged value
   pub short : b ≡ few value
 
 abbrev pub Said : {A : Type 0} → Reader A → (A → Bool) → (A → Bool) → Bytes → ℕ → FieldScan → Type 0

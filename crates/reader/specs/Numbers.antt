@@ -1,6 +1,6 @@
 -- What a decimal and a number in a range are, said of the code's answers.
 use mathlib.Core.Path.{_≡_}
-use mathlib.Core.Bool.{true, false}
+use mathlib.Core.Bool.{false}
 use mathlib.Core.Logic.{_⊎_}
 use Prim.Native.Nat.{ℕ, _^_, _≤_}
 use lib.ListN.{length, drop}
@@ -39,7 +39,7 @@ refusalOf (Value n e) = Refused NUMBER e
 refusalOf (Large e) = Refused NUMBER e
 refusalOf (Stuck p) = Refused FORM p
 
--- a decimal with the test's answer ends at e
+-- a number in the range ends at e, and one outside it does
 pub record InRange (low high : ℕ) (s : Bytes) (at v e : ℕ) : Type 0 where
   pub above : low ≤ v
   pub below : v ≤ high

@@ -1,13 +1,13 @@
 -- Where a byte first stands, and where a line of a text and a field of a line end.
 use mathlib.Core.Path.{_≡_}
-use mathlib.Core.Bool.{Bool, true, false, not}
+use mathlib.Core.Bool.{true, false, not}
 use mathlib.Core.List.{[], _∷_}
 use Prim.Native.Nat.{ℕ, _+_, _≤_, _<_}
 use Prim.Native.Char.{code}
 use lib.Dec.{eqb}
 use lib.ListN.{length, drop, getD}
 use Rattle.ground.specs.Lists.{every}
-use Rattle.paper.specs.Text.{Bytes, Line, lines}
+use Rattle.paper.specs.Text.{Bytes, lines}
 use Rattle.paper.specs.Reader.{got}
 use Rattle.paper.specs.Statement.{Written}
 use Rattle.paper.specs.Grammar.{polynomial}

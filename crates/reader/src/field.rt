@@ -16,7 +16,7 @@ pub enum FieldScan {
     Stuck(usize),
 }
 
-// Both.
+// Whether both are true.
 pub fn both(a: bool, b: bool) -> bool
     ensures { λ r. ⌜ r ≡ (a && b) ⌝ }
 {

@@ -6,30 +6,23 @@ use Rattle.reader.proofs.Polynomials.{sign-here, sign-not, sign-end}
 use borrow.Author.Needs.{needs}
 use Rattle.reader.proofs.field.after_sign.Statement.{statement}
 use Rattle.reader.proofs.field.after_sign.Tie as tie
-use Rattle.reader.proofs.field.after_sign.Reads as reads
-use Rattle.reader.proofs.field.after_sign.Lts as lts
 
--- src/field.rt:51:9
 returns : tie.Need-returns
 returns c =
     let a = c .before .args in
     record { negative = false; taken = record { reads = sign-end (a .s .now) (a .at) (omega arith); onward = omega arith; inside = omega arith } }
 
--- src/field.rt:53:8
 shared-slice-read-if2 : tie.Need-shared-slice-read-if2
 shared-slice-read-if2 c = search needs
 
--- src/field.rt:54:16
 add-result : tie.Need-add-result
 add-result c = search needs
 
--- src/field.rt:54:9
 returns-2 : tie.Need-returns-2
 returns-2 c =
     let a = c .before .before .before .args in
     record { negative = true; taken = record { reads = sign-here (a .s .now) (a .at) (omega arith) (c .if2 .taken); onward = omega arith; inside = omega arith } }
 
--- src/field.rt:46:1
 returns-3 : tie.Need-returns-3
 returns-3 c =
     let a = c .before .before .before .args in

@@ -1,68 +1,50 @@
 -- `reader::field::scan_field` meets its contract: a first term and those behind it, or the field `0`. No loop.
 -- Assumes nothing.
-use mathlib.Core.Path.{_≡_}
 use native.Mathlib.Omega.{arith}
 use Rattle.reader.proofs.Scans.{scanned, pass-on}
 use Rattle.reader.proofs.Polynomials.{polynomial-fails, polynomial-fails-behind, zero-scans, terms-scans}
 use borrow.Author.Needs.{needs}
 use Rattle.reader.proofs.field.scan_field.Statement.{statement}
 use Rattle.reader.proofs.field.scan_field.Tie as tie
-use Rattle.reader.proofs.field.scan_field.Reads as reads
-use Rattle.reader.proofs.field.scan_field.Lts as lts
-use Rattle.reader.proofs.field.both.Reads as both-reads
-use Rattle.reader.proofs.field.scan_term.Reads as scan-term-reads
-use Rattle.reader.proofs.field.scan_terms.Reads as scan-terms-reads
 
--- src/field.rt:125:9
 scan-term-requires : tie.Need-scan-term-requires
 scan-term-requires c κs = search needs
 
--- src/field.rt:126:26
 enum-known-t : tie.Need-enum-known-t
 enum-known-t c = search needs
 
--- src/field.rt:127:9
 enum-told : tie.Need-enum-told
 enum-told c = search needs
 
--- src/field.rt:127:9
 returns : tie.Need-returns
 returns c = pass-on (c .before .before .scan-term .ensures) (c .enum-told .given .1) polynomial-fails
 
--- src/field.rt:129:9
 scan-terms-requires : tie.Need-scan-terms-requires
 scan-terms-requires c κs = scanned (c .before .before .before .scan-term .ensures) (c .before .t .given .1) .taken .inside
 
--- src/field.rt:130:26
 enum-known-ts : tie.Need-enum-known-ts
 enum-known-ts c = search needs
 
--- src/field.rt:131:9
 enum-told-2 : tie.Need-enum-told-2
 enum-told-2 c = search needs
 
--- src/field.rt:131:9
 returns-2 : tie.Need-returns-2
 returns-2 c =
     let t = scanned (c .before .before .before .before .before .before .scan-term .ensures) (c .before .before .before .before .t .given .1) in
     pass-on (c .before .before .scan-terms .ensures) (c .enum-told2 .given .1) (λ f. polynomial-fails-behind (t .taken) f)
 
--- src/field.rt:133:9
 both-requires : tie.Need-both-requires
 both-requires c κs = search needs
 
--- src/field.rt:134:13
 add-if1 : tie.Need-add-if1
 add-if1 c = search needs
 
--- src/field.rt:135:12
 shared-slice-read-if2 : tie.Need-shared-slice-read-if2
 shared-slice-read-if2 c =
     let b = c .before .before in
     let ts = scanned (b .before .before .before .before .scan-terms .ensures) (b .before .before .ts .given .1) in
     omega arith
 
--- src/field.rt:136:13
 returns-3 : tie.Need-returns-3
 returns-3 c =
     let b = c .before .before .before in
@@ -70,7 +52,6 @@ returns-3 c =
     let ts = scanned (b .before .before .before .before .scan-terms .ensures) (b .before .before .ts .given .1) in
     zero-scans t ts (c .before .before .if1 .taken) (c .if2 .taken)
 
--- src/field.rt:121:1
 returns-4 : tie.Need-returns-4
 returns-4 c =
     let b = c .before .before .before in
@@ -78,7 +59,6 @@ returns-4 c =
     let ts = scanned (b .before .before .before .before .scan-terms .ensures) (b .before .before .ts .given .1) in
     rw (b .both .ensures) (terms-scans t ts (λ q z. c .if2 .left z))
 
--- src/field.rt:121:1
 returns-5 : tie.Need-returns-5
 returns-5 c =
     let b = c .before in

@@ -1,66 +1,46 @@
 -- `reader::field::scan_term` meets its contract: a sign, a magnitude and variables in a row. No loop.
 -- Assumes nothing.
-use mathlib.Core.Path.{_≡_}
-use native.Mathlib.Omega.{arith}
-use Rattle.reader.specs.Fields.{Scans}
 use Rattle.reader.proofs.Scans.{scanned, pass-on}
 use Rattle.reader.proofs.Polynomials.{term-fails, term-fails-behind, term-scans}
 use borrow.Author.Needs.{needs}
 use Rattle.reader.proofs.field.scan_term.Statement.{statement}
 use Rattle.reader.proofs.field.scan_term.Tie as tie
-use Rattle.reader.proofs.field.scan_term.Reads as reads
-use Rattle.reader.proofs.field.scan_term.Lts as lts
-use Rattle.reader.proofs.field.after_sign.Reads as after-sign-reads
-use Rattle.reader.proofs.field.both.Reads as both-reads
-use Rattle.reader.proofs.field.scan_number.Reads as scan-number-reads
-use Rattle.reader.proofs.field.scan_variables.Reads as scan-variables-reads
 
--- src/field.rt:85:9
 after-sign-requires : tie.Need-after-sign-requires
 after-sign-requires c κs = search needs
 
--- src/field.rt:86:9
 scan-number-requires : tie.Need-scan-number-requires
 scan-number-requires c κs = search needs
 
--- src/field.rt:87:26
 enum-known-m : tie.Need-enum-known-m
 enum-known-m c = search needs
 
--- src/field.rt:88:9
 enum-told : tie.Need-enum-told
 enum-told c = search needs
 
--- src/field.rt:88:9
 returns : tie.Need-returns
 returns c = pass-on (c .before .before .scan-number .ensures) (c .enum-told .given .1) (λ f. term-fails (c .before .before .before .after-sign .ensures .taken) f)
 
--- src/field.rt:90:9
 scan-variables-requires : tie.Need-scan-variables-requires
 scan-variables-requires c κs =
     let m = scanned (c .before .before .before .scan-number .ensures) (c .before .m .given .1) in
     m .taken .inside
 
--- src/field.rt:91:26
 enum-known-vs : tie.Need-enum-known-vs
 enum-known-vs c = search needs
 
--- src/field.rt:92:9
 enum-told-2 : tie.Need-enum-told-2
 enum-told-2 c = search needs
 
--- src/field.rt:92:9
 returns-2 : tie.Need-returns-2
 returns-2 c =
     let m = scanned (c .before .before .before .before .before .before .scan-number .ensures) (c .before .before .before .before .m .given .1) in
     let sign = c .before .before .before .before .before .before .before .after-sign .ensures in
     pass-on (c .before .before .scan-variables .ensures) (c .enum-told2 .given .1) (λ f. term-fails-behind (sign .taken) (m .taken) f)
 
--- src/field.rt:94:25
 both-requires : tie.Need-both-requires
 both-requires c κs = search needs
 
--- src/field.rt:81:1
 returns-3 : tie.Need-returns-3
 returns-3 c =
     let sign = c .before .before .before .before .before .before .before .before .before .after-sign .ensures in

@@ -15,10 +15,6 @@ use Rattle.reader.proofs.Scans.{scanned, pass-on, Passed, passed-none, 
 use Rattle.reader.proofs.Polynomials.{few-count, count-more}
 use Rattle.reader.proofs.field.scan_terms.Statement.{statement}
 use Rattle.reader.proofs.field.scan_terms.Tie as tie
-use Rattle.reader.proofs.field.scan_terms.Reads as reads
-use Rattle.reader.proofs.field.scan_terms.Lts as lts
-use Rattle.reader.proofs.field.both.Reads as both-reads
-use Rattle.reader.proofs.field.scan_term.Reads as scan-term-reads
 
 abbrev Inv-loop : tie.InvT-loop
 Inv-loop s at in-range₀ n₀ i₀ in-range n i = (n ≤ i) × Passed (code " ") term (λ ts. (in-range ≡ every isTerm ts) × (n ≡ length ts)) s at i
@@ -26,15 +22,12 @@ Inv-loop s at in-range₀ n₀ i₀ in-range n i = (n ≤ i) × Passed (code " "
 abbrev μ-loop : tie.MeasureT-loop
 μ-loop s at in-range₀ n₀ i₀ in-range n i = length s - i
 
--- src/field.rt:105:5
 loop-holds : tie.Need-loop-holds Inv-loop μ-loop
 loop-holds c = let a = c .before .args in (omega arith, passed-none (code " ") term (a .s .now) (a .at) (search needs) (every-none isTerm, refl))
 
--- src/field.rt:106:12
 shared-slice-read-if1 : tie.Need-shared-slice-read-if1 Inv-loop μ-loop
 shared-slice-read-if1 c = search needs
 
--- src/field.rt:107:13
 returns : tie.Need-returns Inv-loop μ-loop
 returns c =
     let loop = c .before .before .before .loop in
@@ -42,23 +35,18 @@ returns c =
     passed-scans (code " ") term (a .s .now) (a .at) (every isTerm) fewMore (loop .i) (loop .inv .1)
     (each-stop (code " ") term (a .s .now) (loop .i) (omega arith) (c .if1 .taken)) (λ ts p. (p .0, few-count ts (loop .n) (p .1)))
 
--- src/field.rt:109:30
 add-scan-term : tie.Need-add-scan-term Inv-loop μ-loop
 add-scan-term c = search needs
 
--- src/field.rt:109:13
 scan-term-requires : tie.Need-scan-term-requires Inv-loop μ-loop
 scan-term-requires c κs = search needs
 
--- src/field.rt:110:30
 enum-known-t : tie.Need-enum-known-t Inv-loop μ-loop
 enum-known-t c = search needs
 
--- src/field.rt:111:13
 enum-told : tie.Need-enum-told Inv-loop μ-loop
 enum-told c = search needs
 
--- src/field.rt:111:13
 returns-2 : tie.Need-returns-2 Inv-loop μ-loop
 returns-2 c =
     let loop = c .before .before .before .before .before .before .loop in
@@ -66,21 +54,17 @@ returns-2 c =
     pass-on (c .before .before .scan-term .ensures) (c .enum-told .given .1)
     (λ f. passed-stuck (code " ") term (a .s .now) (a .at) (loop .i) (loop .inv .1) (omega arith) (c .before .before .before .if1 .left) f)
 
--- src/field.rt:113:9
 both-requires : tie.Need-both-requires Inv-loop μ-loop
 both-requires c κs = search needs
 
--- src/field.rt:114:9
 add-n : tie.Need-add-n Inv-loop μ-loop
 add-n c = search needs
 
--- src/field.rt:105:5
 loop-less : tie.Need-loop-less Inv-loop μ-loop
 loop-less c =
     let t = scanned (c .before .before .before .before .scan-term .ensures) (c .before .before .t .given .1) in
     omega arith
 
--- src/field.rt:105:5
 loop-again : tie.Need-loop-again Inv-loop μ-loop
 loop-again c =
     let loop = c .before .before .before .before .before .before .before .before .loop in
@@ -88,10 +72,9 @@ loop-again c =
     let t = scanned (c .before .before .before .before .scan-term .ensures) (c .before .before .t .given .1) in (
       omega arith,
       passed-more (code " ") term (a .s .now) (a .at) (loop .i) (loop .inv .1) (omega arith) (c .before .before .before .before .before .if1 .left) takes-term (t .taken)
-          (λ ts p. (c .both .ensures ∙ every-more isTerm ts (t .value) _ _ (p .0) (t .inside), count-more ts (t .value) (loop .n) (p .1))),
+          (λ ts p. (c .both .ensures ∙ every-more isTerm ts (t .value) _ _ (p .0) (t .in-range), count-more ts (t .value) (loop .n) (p .1))),
     )
 
--- src/field.rt:98:1
 returns-3 : tie.Need-returns-3 Inv-loop μ-loop
 returns-3 c =
     let loop = c .before .loop in

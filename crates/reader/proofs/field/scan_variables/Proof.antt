@@ -1,6 +1,6 @@
 -- `reader::field::scan_variables` meets its contract. The loop's invariant: variables stand from at up to i, and in_range says whether
 -- all are in range. The measure is what is left of the length. Assumes nothing.
-use mathlib.Core.Path.{_≡_, refl, _∙_, sym}
+use mathlib.Core.Path.{_≡_, refl, _∙_}
 use Prim.Native.Nat.{_-_}
 use Prim.Native.Char.{code}
 use native.Mathlib.Omega.{arith}
@@ -11,14 +11,10 @@ use Rattle.paper.specs.Grammar.{decimal}
 use Rattle.paper.specs.Meaning.{isVariable}
 use Rattle.paper.proofs.Reading.{takes-decimal, each-stop, each-end}
 use Rattle.reader.specs.Fields.{always}
-use Rattle.reader.proofs.Scans.{scanned, stopped, pass-on, Passed, passed-none, passed-more, passed-stuck, passed-scans, every-none, every-more}
+use Rattle.reader.proofs.Scans.{scanned, pass-on, Passed, passed-none, passed-more, passed-stuck, passed-scans, every-none, every-more}
 use Rattle.reader.proofs.Polynomials.{variable-range}
 use Rattle.reader.proofs.field.scan_variables.Statement.{statement}
 use Rattle.reader.proofs.field.scan_variables.Tie as tie
-use Rattle.reader.proofs.field.scan_variables.Reads as reads
-use Rattle.reader.proofs.field.scan_variables.Lts as lts
-use Rattle.reader.proofs.field.both.Reads as both-reads
-use Rattle.reader.proofs.field.scan_number.Reads as scan-number-reads
 
 abbrev Inv-loop : tie.InvT-loop
 Inv-loop s at in-range₀ i₀ in-range i = Passed (code ".") decimal (λ vs. in-range ≡ every isVariable vs) s at i
@@ -26,15 +22,12 @@ Inv-loop s at in-range₀ i₀ in-range i = Passed (code ".") decimal (λ vs. in
 abbrev μ-loop : tie.MeasureT-loop
 μ-loop s at in-range₀ i₀ in-range i = length s - i
 
--- src/field.rt:66:5
 loop-holds : tie.Need-loop-holds Inv-loop μ-loop
 loop-holds c = let a = c .before .args in passed-none (code ".") decimal (a .s .now) (a .at) (search needs) (every-none isVariable)
 
--- src/field.rt:67:12
 shared-slice-read-if1 : tie.Need-shared-slice-read-if1 Inv-loop μ-loop
 shared-slice-read-if1 c = search needs
 
--- src/field.rt:68:13
 returns : tie.Need-returns Inv-loop μ-loop
 returns c =
     let loop = c .before .before .before .loop in
@@ -42,27 +35,21 @@ returns c =
     passed-scans (code ".") decimal (a .s .now) (a .at) (every isVariable) always (loop .i) (loop .inv)
     (each-stop (code ".") decimal (a .s .now) (loop .i) (omega arith) (c .if1 .taken)) (λ vs p. (p, refl))
 
--- src/field.rt:70:32
 add-scan-number : tie.Need-add-scan-number Inv-loop μ-loop
 add-scan-number c = search needs
 
--- src/field.rt:70:42
 sub-scan-number : tie.Need-sub-scan-number Inv-loop μ-loop
 sub-scan-number c = search needs
 
--- src/field.rt:70:13
 scan-number-requires : tie.Need-scan-number-requires Inv-loop μ-loop
 scan-number-requires c κs = search needs
 
--- src/field.rt:71:30
 enum-known-v : tie.Need-enum-known-v Inv-loop μ-loop
 enum-known-v c = search needs
 
--- src/field.rt:72:13
 enum-told : tie.Need-enum-told Inv-loop μ-loop
 enum-told c = search needs
 
--- src/field.rt:72:13
 returns-2 : tie.Need-returns-2 Inv-loop μ-loop
 returns-2 c =
     let loop = c .before .before .before .before .before .before .loop in
@@ -70,26 +57,22 @@ returns-2 c =
     pass-on (c .before .before .scan-number .ensures) (c .enum-told .given .1)
     (λ f. passed-stuck (code ".") decimal (a .s .now) (a .at) (loop .i) (loop .inv) (omega arith) (c .before .before .before .if1 .left) f)
 
--- src/field.rt:74:9
 both-requires : tie.Need-both-requires Inv-loop μ-loop
 both-requires c κs = search needs
 
--- src/field.rt:66:5
 loop-less : tie.Need-loop-less Inv-loop μ-loop
 loop-less c =
     let v = scanned (c .before .before .before .before .scan-number .ensures) (c .before .before .v .given .1) in
     omega arith
 
--- src/field.rt:66:5
 loop-again : tie.Need-loop-again Inv-loop μ-loop
 loop-again c =
     let loop = c .before .before .before .before .before .before .before .before .loop in
     let a = c .before .before .before .before .before .before .before .before .before .before .args in
     let v = scanned (c .before .before .before .before .scan-number .ensures) (c .before .before .v .given .1) in
     passed-more (code ".") decimal (a .s .now) (a .at) (loop .i) (loop .inv) (omega arith) (c .before .before .before .before .before .if1 .left) takes-decimal (v .taken)
-    (λ vs p. c .both .ensures ∙ every-more isVariable vs (v .value) _ _ p (v .inside ∙ variable-range (v .value)))
+    (λ vs p. c .both .ensures ∙ every-more isVariable vs (v .value) _ _ p (v .in-range ∙ variable-range (v .value)))
 
--- src/field.rt:60:1
 returns-3 : tie.Need-returns-3 Inv-loop μ-loop
 returns-3 c =
     let loop = c .before .loop in

@@ -12,8 +12,6 @@ use Rattle.reader.specs.Places.{part}
 use Rattle.reader.proofs.Search.{first-start, first-more}
 use Rattle.reader.proofs.find.find_byte.Statement.{statement}
 use Rattle.reader.proofs.find.find_byte.Tie as tie
-use Rattle.reader.proofs.find.find_byte.Reads as reads
-use Rattle.reader.proofs.find.find_byte.Lts as lts
 
 abbrev Inv-loop : tie.InvT-loop
 Inv-loop s at b i₀ i = (at ≤ i) × (i ≤ length s) × (every (λ x. not (eqb x b)) (part s at i) ≡ true)
@@ -21,36 +19,29 @@ Inv-loop s at b i₀ i = (at ≤ i) × (i ≤ length s) × (every (λ x. not (eq
 abbrev μ-loop : tie.MeasureT-loop
 μ-loop s at b i₀ i = length s - i
 
--- src/find.rt:12:5
 loop-holds : tie.Need-loop-holds Inv-loop μ-loop
 loop-holds c = (omega arith, omega arith, first-start (c .args .b) (c .args .s .now) (c .args .at))
 
--- src/find.rt:13:12
 shared-slice-read-if1 : tie.Need-shared-slice-read-if1 Inv-loop μ-loop
 shared-slice-read-if1 c = search needs
 
--- src/find.rt:14:13
 returns : tie.Need-returns Inv-loop μ-loop
 returns c =
     let loop = c .before .before .before .loop in
     record { onward = omega arith; inside = omega arith; found = λ h. c .if1 .taken; none = loop .inv .2 }
 
--- src/find.rt:16:9
 add-i : tie.Need-add-i Inv-loop μ-loop
 add-i c = search needs
 
--- src/find.rt:12:5
 loop-less : tie.Need-loop-less Inv-loop μ-loop
 loop-less c = search needs
 
--- src/find.rt:12:5
 loop-again : tie.Need-loop-again Inv-loop μ-loop
 loop-again c =
     let loop = c .before .before .before .loop in
     let args = c .before .before .before .before .args in
     (omega arith, omega arith, first-more (args .b) (args .s .now) (args .at) (loop .i) (omega arith) (omega arith) (c .if1 .left) (loop .inv .2))
 
--- src/find.rt:7:1
 returns-2 : tie.Need-returns-2 Inv-loop μ-loop
 returns-2 c =
     let loop = c .before .loop in

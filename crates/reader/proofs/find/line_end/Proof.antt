@@ -4,15 +4,10 @@ use Rattle.reader.proofs.Search.{line-end}
 use borrow.Author.Needs.{needs}
 use Rattle.reader.proofs.find.line_end.Statement.{statement}
 use Rattle.reader.proofs.find.line_end.Tie as tie
-use Rattle.reader.proofs.find.line_end.Reads as reads
-use Rattle.reader.proofs.find.line_end.Lts as lts
-use Rattle.reader.proofs.find.find_byte.Reads as find-byte-reads
 
--- src/find.rt:26:5
 find-byte-requires : tie.Need-find-byte-requires
 find-byte-requires c κs = search needs
 
--- src/find.rt:22:1
 returns : tie.Need-returns
 returns c = let a = c .before .before .args in line-end (a .text .now) (a .at) (c .find-byte .result) (c .find-byte .ensures)
 

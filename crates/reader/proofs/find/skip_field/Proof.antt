@@ -4,15 +4,10 @@ use Rattle.reader.proofs.Search.{field-end}
 use borrow.Author.Needs.{needs}
 use Rattle.reader.proofs.find.skip_field.Statement.{statement}
 use Rattle.reader.proofs.find.skip_field.Tie as tie
-use Rattle.reader.proofs.find.skip_field.Reads as reads
-use Rattle.reader.proofs.find.skip_field.Lts as lts
-use Rattle.reader.proofs.find.find_byte.Reads as find-byte-reads
 
--- src/find.rt:34:5
 find-byte-requires : tie.Need-find-byte-requires
 find-byte-requires c κs = search needs
 
--- src/find.rt:30:1
 returns : tie.Need-returns
 returns c =
     let a = c .before .before .args in

@@ -6,32 +6,22 @@ use Rattle.reader.proofs.Lines.{behind-fails, index-behind}
 use borrow.Author.Needs.{needs}
 use Rattle.reader.proofs.line.indexed.Statement.{statement}
 use Rattle.reader.proofs.line.indexed.Tie as tie
-use Rattle.reader.proofs.line.indexed.Reads as reads
-use Rattle.reader.proofs.line.indexed.Lts as lts
-use Rattle.reader.proofs.line.keyword.Reads as keyword-reads
-use Rattle.reader.proofs.line.tab_number.Reads as tab-number-reads
 
--- src/line.rt:150:9
 keyword-requires : tie.Need-keyword-requires
 keyword-requires c κs = search needs
 
--- src/line.rt:151:26
 enum-known-k : tie.Need-enum-known-k
 enum-known-k c = search needs
 
--- src/line.rt:152:9
 enum-told : tie.Need-enum-told
 enum-told c = search needs
 
--- src/line.rt:152:9
 returns : tie.Need-returns
 returns c = let a = c .before .before .before .before .before .args in pass-on (c .before .before .keyword .ensures) (c .enum-told .given .1) (λ f. behind-fails (a .w .now) number f)
 
--- src/line.rt:154:5
 tab-number-requires : tie.Need-tab-number-requires
 tab-number-requires c κs = scanned (c .before .before .before .keyword .ensures) (c .before .k .given .1) .taken .inside
 
--- src/line.rt:147:1
 returns-2 : tie.Need-returns-2
 returns-2 c =
     let a = c .before .before .before .before .before .before .before .args in

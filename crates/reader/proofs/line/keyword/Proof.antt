@@ -9,8 +9,6 @@ use Rattle.paper.specs.Reader.{literal}
 use Rattle.reader.proofs.Lines.{literal-more, literal-not, literal-short, literal-all}
 use Rattle.reader.proofs.line.keyword.Statement.{statement}
 use Rattle.reader.proofs.line.keyword.Tie as tie
-use Rattle.reader.proofs.line.keyword.Reads as reads
-use Rattle.reader.proofs.line.keyword.Lts as lts
 
 abbrev Inv-loop : tie.InvT-loop
 Inv-loop s w i₀ i = (i ≤ length w) × (i ≤ length s) × (literal w s ≡ literal (drop i w) (drop i s))
@@ -18,48 +16,39 @@ Inv-loop s w i₀ i = (i ≤ length w) × (i ≤ length s) × (literal w s ≡ l
 abbrev μ-loop : tie.MeasureT-loop
 μ-loop s w i₀ i = length w - i
 
--- src/line.rt:134:5
 loop-holds : tie.Need-loop-holds Inv-loop μ-loop
 loop-holds c = (omega arith, omega arith, refl)
 
--- src/line.rt:136:13
 returns : tie.Need-returns Inv-loop μ-loop
 returns c =
     let loop = c .before .before .loop in
     let a = c .before .before .before .args in
     record { said = record { reads = loop .inv .2 ∙ literal-short (a .s .now) (a .w .now) (loop .i) (omega arith) (omega arith); onward = omega arith; inside = omega arith } }
 
--- src/line.rt:138:12
 shared-slice-read-if2 : tie.Need-shared-slice-read-if2 Inv-loop μ-loop
 shared-slice-read-if2 c = search needs
 
--- src/line.rt:138:20
 shared-slice-read-if2-2 : tie.Need-shared-slice-read-if2-2 Inv-loop μ-loop
 shared-slice-read-if2-2 c = search needs
 
--- src/line.rt:139:13
 returns-2 : tie.Need-returns-2 Inv-loop μ-loop
 returns-2 c =
     let loop = c .before .before .before .before .before .loop in
     let a = c .before .before .before .before .before .before .args in
     record { said = record { reads = loop .inv .2 ∙ literal-not (a .s .now) (a .w .now) (loop .i) (omega arith) (omega arith) (c .if2 .taken); onward = omega arith; inside = omega arith } }
 
--- src/line.rt:141:9
 add-i : tie.Need-add-i Inv-loop μ-loop
 add-i c = search needs
 
--- src/line.rt:134:5
 loop-less : tie.Need-loop-less Inv-loop μ-loop
 loop-less c = search needs
 
--- src/line.rt:134:5
 loop-again : tie.Need-loop-again Inv-loop μ-loop
 loop-again c =
     let loop = c .before .before .before .before .before .loop in
     let a = c .before .before .before .before .before .before .args in
     (omega arith, omega arith, loop .inv .2 ∙ literal-more (a .s .now) (a .w .now) (loop .i) (omega arith) (omega arith) (c .if2 .left))
 
--- src/line.rt:130:1
 returns-3 : tie.Need-returns-3 Inv-loop μ-loop
 returns-3 c =
     let loop = c .before .loop in
@@ -68,7 +57,7 @@ returns-3 c =
       said = record {
         value = tt;
         taken = record { reads = loop .inv .2 ∙ literal-all (a .s .now) (a .w .now) (loop .i) (omega arith); onward = omega arith; inside = omega arith };
-        inside = refl;
+        in-range = refl;
         short = refl;
       };
     }

@@ -5,19 +5,13 @@ use Rattle.reader.proofs.Lines.{del-scans}
 use borrow.Author.Needs.{needs}
 use Rattle.reader.proofs.line.scan_del.Statement.{statement}
 use Rattle.reader.proofs.line.scan_del.Tie as tie
-use Rattle.reader.proofs.line.scan_del.Reads as reads
-use Rattle.reader.proofs.line.scan_del.Lts as lts
-use Rattle.reader.proofs.line.indexed.Reads as indexed-reads
 
--- src/line.rt:220:16
 slice-aggregate-indexed : tie.Need-slice-aggregate-indexed
 slice-aggregate-indexed c = search needs
 
--- src/line.rt:220:5
 indexed-requires : tie.Need-indexed-requires
 indexed-requires c κs = search needs
 
--- src/line.rt:217:1
 returns : tie.Need-returns
 unfolding bytes
 returns c = del-scans (c .indexed .ensures)

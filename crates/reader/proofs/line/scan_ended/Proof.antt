@@ -1,113 +1,86 @@
 -- `reader::line::scan_ended` meets its contract: the first byte settles the kind, and nothing stands behind its fields. No loop.
 -- Assumes nothing.
 use native.Mathlib.Omega.{arith}
-use Rattle.reader.proofs.Lines.{ring-line, input-line, goal-line, lin-line, del-line, ext-line, no-line, empty-line}
+use Rattle.reader.specs.Lines.{rings, inputs, goals, lins, dels, exts}
+use Rattle.reader.specs.declared.line.Kind.the-variants.{Ring, Input, Goal, Lin, Del, Ext}
+use Rattle.reader.proofs.Fields.{ring-fields, input-fields, goal-fields, lin-fields, del-fields, ext-fields}
+use Rattle.reader.proofs.Lines.{first-ring, first-input, first-goal, first-lin, first-del, first-ext, kind-line, no-line, empty-line}
 use borrow.Author.Needs.{needs}
 use Rattle.reader.proofs.line.scan_ended.Statement.{statement}
 use Rattle.reader.proofs.line.scan_ended.Tie as tie
-use Rattle.reader.proofs.line.scan_ended.Reads as reads
-use Rattle.reader.proofs.line.scan_ended.Lts as lts
-use Rattle.reader.proofs.line.closed.Reads as closed-reads
-use Rattle.reader.proofs.line.scan_del.Reads as scan-del-reads
-use Rattle.reader.proofs.line.scan_ext.Reads as scan-ext-reads
-use Rattle.reader.proofs.line.scan_goal.Reads as scan-goal-reads
-use Rattle.reader.proofs.line.scan_in.Reads as scan-in-reads
-use Rattle.reader.proofs.line.scan_lin.Reads as scan-lin-reads
-use Rattle.reader.proofs.line.scan_ring.Reads as scan-ring-reads
 
--- src/line.rt:277:9
 returns : tie.Need-returns
 returns c = empty-line (c .before .before .args .s .now) (c .if1 .taken)
 
--- src/line.rt:279:13
 shared-slice-read-b : tie.Need-shared-slice-read-b
 shared-slice-read-b c = search needs
 
--- src/line.rt:281:39
 scan-ring-requires : tie.Need-scan-ring-requires
 scan-ring-requires c κs = search needs
 
--- src/line.rt:281:17
 closed-requires : tie.Need-closed-requires
 closed-requires c κs = search needs
 
--- src/line.rt:282:40
 scan-in-requires : tie.Need-scan-in-requires
 scan-in-requires c κs = search needs
 
--- src/line.rt:282:17
 closed-requires-2 : tie.Need-closed-requires-2
 closed-requires-2 c κs = search needs
 
--- src/line.rt:283:39
 scan-goal-requires : tie.Need-scan-goal-requires
 scan-goal-requires c κs = search needs
 
--- src/line.rt:283:17
 closed-requires-3 : tie.Need-closed-requires-3
 closed-requires-3 c κs = search needs
 
--- src/line.rt:284:38
 scan-lin-requires : tie.Need-scan-lin-requires
 scan-lin-requires c κs = search needs
 
--- src/line.rt:284:17
 closed-requires-4 : tie.Need-closed-requires-4
 closed-requires-4 c κs = search needs
 
--- src/line.rt:285:38
 scan-del-requires : tie.Need-scan-del-requires
 scan-del-requires c κs = search needs
 
--- src/line.rt:285:17
 closed-requires-5 : tie.Need-closed-requires-5
 closed-requires-5 c κs = search needs
 
--- src/line.rt:286:38
 scan-ext-requires : tie.Need-scan-ext-requires
 scan-ext-requires c κs = search needs
 
--- src/line.rt:286:17
 closed-requires-6 : tie.Need-closed-requires-6
 closed-requires-6 c κs = search needs
 
--- src/line.rt:273:1
 returns-2 : tie.Need-returns-2
 returns-2 c =
     let s = c .before .before .before .before .before .before .args .s .now in
-    rw (c .closed .ensures) (ring-line s (omega arith) (c .before .scan-ring .result) (c .before .before .match .keys1) (c .before .scan-ring .ensures))
+    rw (c .closed .ensures) (kind-line s (omega arith) 114 rings Ring first-ring (ring-fields s) (c .before .scan-ring .result) (c .before .before .match .keys1) (c .before .scan-ring .ensures))
 
--- src/line.rt:273:1
 returns-3 : tie.Need-returns-3
 returns-3 c =
     let s = c .before .before .before .before .before .before .args .s .now in
-    rw (c .closed2 .ensures) (input-line s (omega arith) (c .before .scan-in .result) (c .before .before .match .keys2) (c .before .scan-in .ensures))
+    rw (c .closed2 .ensures) (kind-line s (omega arith) 105 inputs Input first-input (input-fields s) (c .before .scan-in .result) (c .before .before .match .keys2) (c .before .scan-in .ensures))
 
--- src/line.rt:273:1
 returns-4 : tie.Need-returns-4
 returns-4 c =
     let s = c .before .before .before .before .before .before .args .s .now in
-    rw (c .closed3 .ensures) (goal-line s (omega arith) (c .before .scan-goal .result) (c .before .before .match .keys3) (c .before .scan-goal .ensures))
+    rw (c .closed3 .ensures) (kind-line s (omega arith) 103 goals Goal first-goal (goal-fields s) (c .before .scan-goal .result) (c .before .before .match .keys3) (c .before .scan-goal .ensures))
 
--- src/line.rt:273:1
 returns-5 : tie.Need-returns-5
 returns-5 c =
     let s = c .before .before .before .before .before .before .args .s .now in
-    rw (c .closed4 .ensures) (lin-line s (omega arith) (c .before .scan-lin .result) (c .before .before .match .keys4) (c .before .scan-lin .ensures))
+    rw (c .closed4 .ensures) (kind-line s (omega arith) 108 lins Lin first-lin (lin-fields s) (c .before .scan-lin .result) (c .before .before .match .keys4) (c .before .scan-lin .ensures))
 
--- src/line.rt:273:1
 returns-6 : tie.Need-returns-6
 returns-6 c =
     let s = c .before .before .before .before .before .before .args .s .now in
-    rw (c .closed5 .ensures) (del-line s (omega arith) (c .before .scan-del .result) (c .before .before .match .keys5) (c .before .scan-del .ensures))
+    rw (c .closed5 .ensures) (kind-line s (omega arith) 100 dels Del first-del (del-fields s) (c .before .scan-del .result) (c .before .before .match .keys5) (c .before .scan-del .ensures))
 
--- src/line.rt:273:1
 returns-7 : tie.Need-returns-7
 returns-7 c =
     let s = c .before .before .before .before .before .before .args .s .now in
-    rw (c .closed6 .ensures) (ext-line s (omega arith) (c .before .scan-ext .result) (c .before .before .match .keys6) (c .before .scan-ext .ensures))
+    rw (c .closed6 .ensures) (kind-line s (omega arith) 101 exts Ext first-ext (ext-fields s) (c .before .scan-ext .result) (c .before .before .match .keys6) (c .before .scan-ext .ensures))
 
--- src/line.rt:273:1
 returns-8 : tie.Need-returns-8
 returns-8 c =
     let s = c .before .before .before .before .args .s .now in

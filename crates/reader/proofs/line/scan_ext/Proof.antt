@@ -6,70 +6,50 @@ use Rattle.reader.proofs.Lines.{ext-fails, ext-fails-variable, ext-fail
 use borrow.Author.Needs.{needs}
 use Rattle.reader.proofs.line.scan_ext.Statement.{statement}
 use Rattle.reader.proofs.line.scan_ext.Tie as tie
-use Rattle.reader.proofs.line.scan_ext.Reads as reads
-use Rattle.reader.proofs.line.scan_ext.Lts as lts
-use Rattle.reader.proofs.field.both.Reads as both-reads
-use Rattle.reader.proofs.line.indexed.Reads as indexed-reads
-use Rattle.reader.proofs.line.tab_field.Reads as tab-field-reads
-use Rattle.reader.proofs.line.tab_number.Reads as tab-number-reads
 
--- src/line.rt:227:24
 slice-aggregate-indexed : tie.Need-slice-aggregate-indexed
 slice-aggregate-indexed c = search needs
 
--- src/line.rt:227:9
 indexed-requires : tie.Need-indexed-requires
 indexed-requires c κs = search needs
 
--- src/line.rt:228:26
 enum-known-i : tie.Need-enum-known-i
 enum-known-i c = search needs
 
--- src/line.rt:229:9
 enum-told : tie.Need-enum-told
 enum-told c = search needs
 
--- src/line.rt:229:9
 returns : tie.Need-returns
 unfolding bytes
 returns c = pass-on (c .before .before .indexed .ensures) (c .enum-told .given .1) ext-fails
 
--- src/line.rt:231:33
 sub-tab-number : tie.Need-sub-tab-number
 sub-tab-number c = search needs
 
--- src/line.rt:231:9
 tab-number-requires : tie.Need-tab-number-requires
 tab-number-requires c κs = scanned (c .before .before .before .indexed .ensures) (c .before .i .given .1) .taken .inside
 
--- src/line.rt:232:26
 enum-known-v : tie.Need-enum-known-v
 enum-known-v c = search needs
 
--- src/line.rt:233:9
 enum-told-2 : tie.Need-enum-told-2
 enum-told-2 c = search needs
 
--- src/line.rt:233:9
 returns-2 : tie.Need-returns-2
 unfolding bytes
 returns-2 c =
     let i = scanned (c .before .before .before .before .before .before .indexed .ensures) (c .before .before .before .before .i .given .1) in
     pass-on (c .before .before .tab-number .ensures) (c .enum-told2 .given .1) (λ f. ext-fails-variable (i .taken) f)
 
--- src/line.rt:235:9
 tab-field-requires : tie.Need-tab-field-requires
 tab-field-requires c κs = scanned (c .before .before .before .tab-number .ensures) (c .before .v .given .1) .taken .inside
 
--- src/line.rt:236:26
 enum-known-p : tie.Need-enum-known-p
 enum-known-p c = search needs
 
--- src/line.rt:237:9
 enum-told-3 : tie.Need-enum-told-3
 enum-told-3 c = search needs
 
--- src/line.rt:237:9
 returns-3 : tie.Need-returns-3
 unfolding bytes
 returns-3 c =
@@ -77,15 +57,12 @@ returns-3 c =
     let v = scanned (c .before .before .before .before .before .before .tab-number .ensures) (c .before .before .before .before .v .given .1) in
     pass-on (c .before .before .tab-field .ensures) (c .enum-told3 .given .1) (λ f. ext-fails-field (i .taken) (v .taken) f)
 
--- src/line.rt:239:9
 both-requires : tie.Need-both-requires
 both-requires c κs = search needs
 
--- src/line.rt:240:25
 both-requires-2 : tie.Need-both-requires-2
 both-requires-2 c κs = search needs
 
--- src/line.rt:224:1
 returns-4 : tie.Need-returns-4
 unfolding bytes
 returns-4 c =

@@ -7,37 +7,26 @@ use Rattle.reader.proofs.Lines.{behind-fails, goal-scans}
 use borrow.Author.Needs.{needs}
 use Rattle.reader.proofs.line.scan_goal.Statement.{statement}
 use Rattle.reader.proofs.line.scan_goal.Tie as tie
-use Rattle.reader.proofs.line.scan_goal.Reads as reads
-use Rattle.reader.proofs.line.scan_goal.Lts as lts
-use Rattle.reader.proofs.line.keyword.Reads as keyword-reads
-use Rattle.reader.proofs.line.tab_field.Reads as tab-field-reads
 
--- src/line.rt:189:24
 slice-aggregate-keyword : tie.Need-slice-aggregate-keyword
 slice-aggregate-keyword c = search needs
 
--- src/line.rt:189:9
 keyword-requires : tie.Need-keyword-requires
 keyword-requires c κs = search needs
 
--- src/line.rt:190:26
 enum-known-k : tie.Need-enum-known-k
 enum-known-k c = search needs
 
--- src/line.rt:191:9
 enum-told : tie.Need-enum-told
 enum-told c = search needs
 
--- src/line.rt:191:9
 returns : tie.Need-returns
 unfolding bytes
 returns c = pass-on (c .before .before .keyword .ensures) (c .enum-told .given .1) (λ f. behind-fails (bytes "goal") (goals .fields) f)
 
--- src/line.rt:193:5
 tab-field-requires : tie.Need-tab-field-requires
 tab-field-requires c κs = scanned (c .before .before .before .keyword .ensures) (c .before .k .given .1) .taken .inside
 
--- src/line.rt:186:1
 returns-2 : tie.Need-returns-2
 unfolding bytes
 returns-2 c =

@@ -6,57 +6,41 @@ use Rattle.reader.proofs.Lines.{input-fails, input-fails-field, input-s
 use borrow.Author.Needs.{needs}
 use Rattle.reader.proofs.line.scan_in.Statement.{statement}
 use Rattle.reader.proofs.line.scan_in.Tie as tie
-use Rattle.reader.proofs.line.scan_in.Reads as reads
-use Rattle.reader.proofs.line.scan_in.Lts as lts
-use Rattle.reader.proofs.field.both.Reads as both-reads
-use Rattle.reader.proofs.line.indexed.Reads as indexed-reads
-use Rattle.reader.proofs.line.tab_field.Reads as tab-field-reads
 
--- src/line.rt:174:24
 slice-aggregate-indexed : tie.Need-slice-aggregate-indexed
 slice-aggregate-indexed c = search needs
 
--- src/line.rt:174:9
 indexed-requires : tie.Need-indexed-requires
 indexed-requires c κs = search needs
 
--- src/line.rt:175:26
 enum-known-i : tie.Need-enum-known-i
 enum-known-i c = search needs
 
--- src/line.rt:176:9
 enum-told : tie.Need-enum-told
 enum-told c = search needs
 
--- src/line.rt:176:9
 returns : tie.Need-returns
 unfolding bytes
 returns c = pass-on (c .before .before .indexed .ensures) (c .enum-told .given .1) input-fails
 
--- src/line.rt:178:9
 tab-field-requires : tie.Need-tab-field-requires
 tab-field-requires c κs = scanned (c .before .before .before .indexed .ensures) (c .before .i .given .1) .taken .inside
 
--- src/line.rt:179:26
 enum-known-p : tie.Need-enum-known-p
 enum-known-p c = search needs
 
--- src/line.rt:180:9
 enum-told-2 : tie.Need-enum-told-2
 enum-told-2 c = search needs
 
--- src/line.rt:180:9
 returns-2 : tie.Need-returns-2
 unfolding bytes
 returns-2 c =
     let i = scanned (c .before .before .before .before .before .before .indexed .ensures) (c .before .before .before .before .i .given .1) in
     pass-on (c .before .before .tab-field .ensures) (c .enum-told2 .given .1) (λ f. input-fails-field (i .taken) f)
 
--- src/line.rt:182:25
 both-requires : tie.Need-both-requires
 both-requires c κs = search needs
 
--- src/line.rt:171:1
 returns-3 : tie.Need-returns-3
 unfolding bytes
 returns-3 c =

@@ -6,66 +6,47 @@ use Rattle.reader.proofs.Lines.{lin-fails, lin-fails-field, lin-fails-p
 use borrow.Author.Needs.{needs}
 use Rattle.reader.proofs.line.scan_lin.Statement.{statement}
 use Rattle.reader.proofs.line.scan_lin.Tie as tie
-use Rattle.reader.proofs.line.scan_lin.Reads as reads
-use Rattle.reader.proofs.line.scan_lin.Lts as lts
-use Rattle.reader.proofs.field.both.Reads as both-reads
-use Rattle.reader.proofs.line.indexed.Reads as indexed-reads
-use Rattle.reader.proofs.line.tab_field.Reads as tab-field-reads
-use Rattle.reader.proofs.line.tab_pairs.Reads as tab-pairs-reads
 
--- src/line.rt:200:24
 slice-aggregate-indexed : tie.Need-slice-aggregate-indexed
 slice-aggregate-indexed c = search needs
 
--- src/line.rt:200:9
 indexed-requires : tie.Need-indexed-requires
 indexed-requires c κs = search needs
 
--- src/line.rt:201:26
 enum-known-i : tie.Need-enum-known-i
 enum-known-i c = search needs
 
--- src/line.rt:202:9
 enum-told : tie.Need-enum-told
 enum-told c = search needs
 
--- src/line.rt:202:9
 returns : tie.Need-returns
 unfolding bytes
 returns c = pass-on (c .before .before .indexed .ensures) (c .enum-told .given .1) lin-fails
 
--- src/line.rt:204:9
 tab-field-requires : tie.Need-tab-field-requires
 tab-field-requires c κs = scanned (c .before .before .before .indexed .ensures) (c .before .i .given .1) .taken .inside
 
--- src/line.rt:205:26
 enum-known-p : tie.Need-enum-known-p
 enum-known-p c = search needs
 
--- src/line.rt:206:9
 enum-told-2 : tie.Need-enum-told-2
 enum-told-2 c = search needs
 
--- src/line.rt:206:9
 returns-2 : tie.Need-returns-2
 unfolding bytes
 returns-2 c =
     let i = scanned (c .before .before .before .before .before .before .indexed .ensures) (c .before .before .before .before .i .given .1) in
     pass-on (c .before .before .tab-field .ensures) (c .enum-told2 .given .1) (λ f. lin-fails-field (i .taken) f)
 
--- src/line.rt:208:9
 tab-pairs-requires : tie.Need-tab-pairs-requires
 tab-pairs-requires c κs = scanned (c .before .before .before .tab-field .ensures) (c .before .p .given .1) .taken .inside
 
--- src/line.rt:209:26
 enum-known-qs : tie.Need-enum-known-qs
 enum-known-qs c = search needs
 
--- src/line.rt:210:9
 enum-told-3 : tie.Need-enum-told-3
 enum-told-3 c = search needs
 
--- src/line.rt:210:9
 returns-3 : tie.Need-returns-3
 unfolding bytes
 returns-3 c =
@@ -73,19 +54,15 @@ returns-3 c =
     let p = scanned (c .before .before .before .before .before .before .tab-field .ensures) (c .before .before .before .before .p .given .1) in
     pass-on (c .before .before .tab-pairs .ensures) (c .enum-told3 .given .1) (λ f. lin-fails-pairs (i .taken) (p .taken) f)
 
--- src/line.rt:212:9
 both-requires : tie.Need-both-requires
 both-requires c κs = search needs
 
--- src/line.rt:213:25
 both-requires-2 : tie.Need-both-requires-2
 both-requires-2 c κs = search needs
 
--- src/line.rt:213:43
 both-requires-3 : tie.Need-both-requires-3
 both-requires-3 c κs = search needs
 
--- src/line.rt:197:1
 returns-4 : tie.Need-returns-4
 unfolding bytes
 returns-4 c =

@@ -4,32 +4,33 @@ use Rattle.reader.proofs.Lines.{line-ended, line-stops, line-unended}
 use borrow.Author.Needs.{needs}
 use Rattle.reader.proofs.line.scan_line.Statement.{statement}
 use Rattle.reader.proofs.line.scan_line.Tie as tie
-use Rattle.reader.proofs.line.scan_line.Reads as reads
-use Rattle.reader.proofs.line.scan_line.Lts as lts
-use Rattle.reader.proofs.line.scan_ended.Reads as scan-ended-reads
 
--- src/line.rt:295:9
 scan-ended-requires : tie.Need-scan-ended-requires
 scan-ended-requires c κs = search needs
 
--- src/line.rt:297:9
 returns : tie.Need-returns
-returns c = let a = c .before .before .before .args in line-ended (a .s .now) (a .ended) (c .before .scan-ended .result) (c .before .scan-ended .ensures) (c .if1 .taken)
+returns c =
+    let a = c .before .before .before .args in
+    let r = c .before .scan-ended in
+    line-ended (a .s .now) (a .ended) (r .result) (r .ensures) (c .if1 .taken)
 
 enum-told : tie.Need-enum-told
 enum-told c = search needs
 
--- src/line.rt:300:9
 enum-told-2 : tie.Need-enum-told-2
 enum-told-2 c = search needs
 
--- src/line.rt:300:9
 returns-2 : tie.Need-returns-2
-returns-2 c = let a = c .before .before .before .before .before .args in line-stops (a .s .now) (a .ended) (c .before .before .before .scan-ended .result) (c .before .before .before .scan-ended .ensures) (c .before .before .if1 .left) (c .enum-told2 .given .1)
+returns-2 c =
+    let a = c .before .before .before .before .before .args in
+    let r = c .before .before .before .scan-ended in
+    line-stops (a .s .now) (a .ended) (r .result) (r .ensures) (c .before .before .if1 .left) (c .enum-told2 .given .1)
 
--- src/line.rt:292:1
 returns-3 : tie.Need-returns-3
-returns-3 c = let a = c .before .before .before .before .before .args in line-unended (a .s .now) (a .ended) (c .before .before .before .scan-ended .result) (c .before .before .before .scan-ended .ensures) (c .before .before .if1 .left) (c .enum-told .given .1)
+returns-3 c =
+    let a = c .before .before .before .before .before .args in
+    let r = c .before .before .before .scan-ended in
+    line-unended (a .s .now) (a .ended) (r .result) (r .ensures) (c .before .before .if1 .left) (c .enum-told .given .1)
 
 pub scan-line-spec : {M : Type 1} → statement M
 scan-line-spec =

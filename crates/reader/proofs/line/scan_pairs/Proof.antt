@@ -13,10 +13,6 @@ use Rattle.reader.specs.Lines.{pairRanged, pairFew}
 use Rattle.reader.proofs.Scans.{scanned, pass-on, Passed, passed-none, passed-more, passed-stuck, passed-scans, every-none, every-more}
 use Rattle.reader.proofs.line.scan_pairs.Statement.{statement}
 use Rattle.reader.proofs.line.scan_pairs.Tie as tie
-use Rattle.reader.proofs.line.scan_pairs.Reads as reads
-use Rattle.reader.proofs.line.scan_pairs.Lts as lts
-use Rattle.reader.proofs.field.both.Reads as both-reads
-use Rattle.reader.proofs.line.scan_pair.Reads as scan-pair-reads
 
 abbrev Inv-loop : tie.InvT-loop
 Inv-loop s at in-range₀ few₀ i₀ in-range few i = Passed (code "\t") pair (λ qs. (in-range ≡ every pairRanged qs) × (few ≡ every pairFew qs)) s at i
@@ -24,15 +20,12 @@ Inv-loop s at in-range₀ few₀ i₀ in-range few i = Passed (code "\t") pair (
 abbrev μ-loop : tie.MeasureT-loop
 μ-loop s at in-range₀ few₀ i₀ in-range few i = length s - i
 
--- src/line.rt:90:5
 loop-holds : tie.Need-loop-holds Inv-loop μ-loop
 loop-holds c = let a = c .before .args in passed-none (code "\t") pair (a .s .now) (a .at) (search needs) (every-none pairRanged, every-none pairFew)
 
--- src/line.rt:91:12
 shared-slice-read-if1 : tie.Need-shared-slice-read-if1 Inv-loop μ-loop
 shared-slice-read-if1 c = search needs
 
--- src/line.rt:92:13
 returns : tie.Need-returns Inv-loop μ-loop
 returns c =
     let loop = c .before .before .before .loop in
@@ -40,23 +33,18 @@ returns c =
     passed-scans (code "\t") pair (a .s .now) (a .at) (every pairRanged) (every pairFew) (loop .i) (loop .inv)
     (each-stop (code "\t") pair (a .s .now) (loop .i) (omega arith) (c .if1 .taken)) (λ qs p. p)
 
--- src/line.rt:94:30
 add-scan-pair : tie.Need-add-scan-pair Inv-loop μ-loop
 add-scan-pair c = search needs
 
--- src/line.rt:94:13
 scan-pair-requires : tie.Need-scan-pair-requires Inv-loop μ-loop
 scan-pair-requires c κs = search needs
 
--- src/line.rt:95:30
 enum-known-q : tie.Need-enum-known-q Inv-loop μ-loop
 enum-known-q c = search needs
 
--- src/line.rt:96:13
 enum-told : tie.Need-enum-told Inv-loop μ-loop
 enum-told c = search needs
 
--- src/line.rt:96:13
 returns-2 : tie.Need-returns-2 Inv-loop μ-loop
 returns-2 c =
     let loop = c .before .before .before .before .before .before .loop in
@@ -64,30 +52,25 @@ returns-2 c =
     pass-on (c .before .before .scan-pair .ensures) (c .enum-told .given .1)
     (λ f. passed-stuck (code "\t") pair (a .s .now) (a .at) (loop .i) (loop .inv) (omega arith) (c .before .before .before .if1 .left) f)
 
--- src/line.rt:98:9
 both-requires : tie.Need-both-requires Inv-loop μ-loop
 both-requires c κs = search needs
 
--- src/line.rt:99:9
 both-requires-2 : tie.Need-both-requires-2 Inv-loop μ-loop
 both-requires-2 c κs = search needs
 
--- src/line.rt:90:5
 loop-less : tie.Need-loop-less Inv-loop μ-loop
 loop-less c =
     let q = scanned (c .before .before .before .before .before .scan-pair .ensures) (c .before .before .before .q .given .1) in
     omega arith
 
--- src/line.rt:90:5
 loop-again : tie.Need-loop-again Inv-loop μ-loop
 loop-again c =
     let loop = c .before .before .before .before .before .before .before .before .before .loop in
     let a = c .before .before .before .before .before .before .before .before .before .before .before .args in
     let q = scanned (c .before .before .before .before .before .scan-pair .ensures) (c .before .before .before .q .given .1) in
     passed-more (code "\t") pair (a .s .now) (a .at) (loop .i) (loop .inv) (omega arith) (c .before .before .before .before .before .before .if1 .left) takes-pair (q .taken)
-    (λ qs p. (c .before .both .ensures ∙ every-more pairRanged qs (q .value) _ _ (p .0) (q .inside), c .both2 .ensures ∙ every-more pairFew qs (q .value) _ _ (p .1) (q .short)))
+    (λ qs p. (c .before .both .ensures ∙ every-more pairRanged qs (q .value) _ _ (p .0) (q .in-range), c .both2 .ensures ∙ every-more pairFew qs (q .value) _ _ (p .1) (q .short)))
 
--- src/line.rt:83:1
 returns-3 : tie.Need-returns-3 Inv-loop μ-loop
 returns-3 c =
     let loop = c .before .loop in

@@ -7,37 +7,26 @@ use Rattle.reader.proofs.Lines.{behind-fails, ring-scans}
 use borrow.Author.Needs.{needs}
 use Rattle.reader.proofs.line.scan_ring.Statement.{statement}
 use Rattle.reader.proofs.line.scan_ring.Tie as tie
-use Rattle.reader.proofs.line.scan_ring.Reads as reads
-use Rattle.reader.proofs.line.scan_ring.Lts as lts
-use Rattle.reader.proofs.line.keyword.Reads as keyword-reads
-use Rattle.reader.proofs.line.tab_number.Reads as tab-number-reads
 
--- src/line.rt:163:24
 slice-aggregate-keyword : tie.Need-slice-aggregate-keyword
 slice-aggregate-keyword c = search needs
 
--- src/line.rt:163:9
 keyword-requires : tie.Need-keyword-requires
 keyword-requires c κs = search needs
 
--- src/line.rt:164:26
 enum-known-k : tie.Need-enum-known-k
 enum-known-k c = search needs
 
--- src/line.rt:165:9
 enum-told : tie.Need-enum-told
 enum-told c = search needs
 
--- src/line.rt:165:9
 returns : tie.Need-returns
 unfolding bytes
 returns c = pass-on (c .before .before .keyword .ensures) (c .enum-told .given .1) (λ f. behind-fails (bytes "ring") (rings .fields) f)
 
--- src/line.rt:167:5
 tab-number-requires : tie.Need-tab-number-requires
 tab-number-requires c κs = scanned (c .before .before .before .keyword .ensures) (c .before .k .given .1) .taken .inside
 
--- src/line.rt:160:1
 returns-2 : tie.Need-returns-2
 unfolding bytes
 returns-2 c =

@@ -5,31 +5,22 @@ use Rattle.reader.proofs.Lines.{tab-here, tab-not, tab-end, field-fails
 use borrow.Author.Needs.{needs}
 use Rattle.reader.proofs.line.tab_field.Statement.{statement}
 use Rattle.reader.proofs.line.tab_field.Tie as tie
-use Rattle.reader.proofs.line.tab_field.Reads as reads
-use Rattle.reader.proofs.line.tab_field.Lts as lts
-use Rattle.reader.proofs.field.scan_field.Reads as scan-field-reads
 
--- src/line.rt:56:9
 returns : tie.Need-returns
 returns c = let a = c .before .before .args in record { said = field-fails (tab-end (a .s .now) (a .at) (omega arith) (omega arith)) }
 
--- src/line.rt:58:8
 shared-slice-read-if2 : tie.Need-shared-slice-read-if2
 shared-slice-read-if2 c = search needs
 
--- src/line.rt:59:9
 returns-2 : tie.Need-returns-2
 returns-2 c = let a = c .before .before .before .before .args in record { said = field-fails (tab-not (a .s .now) (a .at) (omega arith) (c .if2 .taken)) }
 
--- src/line.rt:61:19
 add-scan-field : tie.Need-add-scan-field
 add-scan-field c = search needs
 
--- src/line.rt:61:5
 scan-field-requires : tie.Need-scan-field-requires
 scan-field-requires c κs = search needs
 
--- src/line.rt:51:1
 returns-3 : tie.Need-returns-3
 returns-3 c = let a = c .before .before .before .before .before .args in field-behind (tab-here (a .s .now) (a .at) (omega arith) (c .before .if2 .left)) (c .scan-field .ensures)
 

@@ -5,31 +5,22 @@ use Rattle.reader.proofs.Lines.{tab-here, tab-not, tab-end, number-fail
 use borrow.Author.Needs.{needs}
 use Rattle.reader.proofs.line.tab_number.Statement.{statement}
 use Rattle.reader.proofs.line.tab_number.Tie as tie
-use Rattle.reader.proofs.line.tab_number.Reads as reads
-use Rattle.reader.proofs.line.tab_number.Lts as lts
-use Rattle.reader.proofs.field.scan_number.Reads as scan-number-reads
 
--- src/line.rt:42:9
 returns : tie.Need-returns
 returns c = let a = c .before .before .args in record { said = number-fails (tab-end (a .s .now) (a .at) (omega arith) (omega arith)) }
 
--- src/line.rt:44:8
 shared-slice-read-if2 : tie.Need-shared-slice-read-if2
 shared-slice-read-if2 c = search needs
 
--- src/line.rt:45:9
 returns-2 : tie.Need-returns-2
 returns-2 c = let a = c .before .before .before .before .args in record { said = number-fails (tab-not (a .s .now) (a .at) (omega arith) (c .if2 .taken)) }
 
--- src/line.rt:47:20
 add-scan-number : tie.Need-add-scan-number
 add-scan-number c = search needs
 
--- src/line.rt:47:5
 scan-number-requires : tie.Need-scan-number-requires
 scan-number-requires c κs = search needs
 
--- src/line.rt:37:1
 returns-3 : tie.Need-returns-3
 returns-3 c = let a = c .before .before .before .before .before .args in number-behind (tab-here (a .s .now) (a .at) (omega arith) (c .before .if2 .left)) (c .scan-number .ensures)
 

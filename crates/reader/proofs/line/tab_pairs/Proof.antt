@@ -6,60 +6,43 @@ use Rattle.reader.proofs.Lines.{tab-here, tab-not, tab-end, pairs-fails
 use borrow.Author.Needs.{needs}
 use Rattle.reader.proofs.line.tab_pairs.Statement.{statement}
 use Rattle.reader.proofs.line.tab_pairs.Tie as tie
-use Rattle.reader.proofs.line.tab_pairs.Reads as reads
-use Rattle.reader.proofs.line.tab_pairs.Lts as lts
-use Rattle.reader.proofs.field.both.Reads as both-reads
-use Rattle.reader.proofs.line.scan_pair.Reads as scan-pair-reads
-use Rattle.reader.proofs.line.scan_pairs.Reads as scan-pairs-reads
 
--- src/line.rt:111:9
 returns : tie.Need-returns
 returns c = let a = c .before .before .args in record { said = pairs-fails (tab-end (a .s .now) (a .at) (omega arith) (omega arith)) }
 
--- src/line.rt:113:8
 shared-slice-read-if2 : tie.Need-shared-slice-read-if2
 shared-slice-read-if2 c = search needs
 
--- src/line.rt:114:9
 returns-2 : tie.Need-returns-2
 returns-2 c = let a = c .before .before .before .before .args in record { said = pairs-fails (tab-not (a .s .now) (a .at) (omega arith) (c .if2 .taken)) }
 
--- src/line.rt:116:26
 add-scan-pair : tie.Need-add-scan-pair
 add-scan-pair c = search needs
 
--- src/line.rt:116:9
 scan-pair-requires : tie.Need-scan-pair-requires
 scan-pair-requires c κs = search needs
 
--- src/line.rt:117:26
 enum-known-q : tie.Need-enum-known-q
 enum-known-q c = search needs
 
--- src/line.rt:118:9
 enum-told : tie.Need-enum-told
 enum-told c = search needs
 
--- src/line.rt:118:9
 returns-3 : tie.Need-returns-3
 returns-3 c =
     let a = c .before .before .before .before .before .before .before .args in
     let t = tab-here (a .s .now) (a .at) (omega arith) (c .before .before .before .if2 .left) in
     pass-on (c .before .before .scan-pair .ensures) (c .enum-told .given .1) (λ f. pairs-fails-first t f)
 
--- src/line.rt:120:9
 scan-pairs-requires : tie.Need-scan-pairs-requires
 scan-pairs-requires c κs = scanned (c .before .before .before .scan-pair .ensures) (c .before .q .given .1) .taken .inside
 
--- src/line.rt:121:26
 enum-known-qs : tie.Need-enum-known-qs
 enum-known-qs c = search needs
 
--- src/line.rt:122:9
 enum-told-2 : tie.Need-enum-told-2
 enum-told-2 c = search needs
 
--- src/line.rt:122:9
 returns-4 : tie.Need-returns-4
 returns-4 c =
     let a = c .before .before .before .before .before .before .before .before .before .before .before .args in
@@ -67,15 +50,12 @@ returns-4 c =
     let q = scanned (c .before .before .before .before .before .before .scan-pair .ensures) (c .before .before .before .before .q .given .1) in
     pass-on (c .before .before .scan-pairs .ensures) (c .enum-told2 .given .1) (λ f. pairs-fails-behind t (q .taken) f)
 
--- src/line.rt:124:25
 both-requires : tie.Need-both-requires
 both-requires c κs = search needs
 
--- src/line.rt:124:45
 both-requires-2 : tie.Need-both-requires-2
 both-requires-2 c κs = search needs
 
--- src/line.rt:106:1
 returns-5 : tie.Need-returns-5
 returns-5 c =
     let a = c .before .before .before .before .before .before .before .before .before .before .before .before .before .before .args in

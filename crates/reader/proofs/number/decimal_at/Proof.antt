@@ -9,53 +9,40 @@ use Rattle.reader.proofs.Numbers.{decimal-by}
 use borrow.Author.Needs.{needs}
 use Rattle.reader.proofs.number.decimal_at.Statement.{statement}
 use Rattle.reader.proofs.number.decimal_at.Tie as tie
-use Rattle.reader.proofs.number.decimal_at.Reads as reads
-use Rattle.reader.proofs.number.decimal_at.Lts as lts
-use Rattle.reader.proofs.number.digits_from.Reads as digits-from-reads
 
--- src/number.rt:86:9
 returns : tie.Need-returns
 returns c = let a = c .before .before .args in record { reads = decimal-end (a .s .now) (a .at) (omega arith); onward = omega arith; inside = omega arith }
 
--- src/number.rt:88:13
 shared-slice-read-b : tie.Need-shared-slice-read-b
 shared-slice-read-b c = search needs
 
--- src/number.rt:90:9
 returns-2 : tie.Need-returns-2
 returns-2 c =
     let a = c .before .before .before .before .args in
     record { reads = decimal-low (a .s .now) (a .at) (omega arith) (c .if2 .taken); onward = omega arith; inside = omega arith }
 
--- src/number.rt:93:9
 returns-3 : tie.Need-returns-3
 returns-3 c =
     let a = c .before .before .before .before .before .args in
     record { reads = decimal-high (a .s .now) (a .at) (omega arith) (c .if3 .taken); onward = omega arith; inside = omega arith }
 
--- src/number.rt:96:34
 add-t8 : tie.Need-add-t8
 add-t8 c = search needs
 
--- src/number.rt:96:9
 returns-4 : tie.Need-returns-4
 returns-4 c =
     let a = c .before .before .before .before .before .before .args in
     record { reads = decimal-zero (a .s .now) (a .at) (omega arith) (c .if4 .taken); onward = omega arith; inside = omega arith }
 
--- src/number.rt:98:20
 add-digits-from : tie.Need-add-digits-from
 add-digits-from c = search needs
 
--- src/number.rt:98:28
 cast-digits-from : tie.Need-cast-digits-from
 cast-digits-from c = search needs
 
--- src/number.rt:98:5
 digits-from-requires : tie.Need-digits-from-requires
 digits-from-requires c κs = search needs
 
--- src/number.rt:81:1
 returns-5 : tie.Need-returns-5
 returns-5 c =
     let a = c .before .before .before .before .before .before .before .args in

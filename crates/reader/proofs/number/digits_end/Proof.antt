@@ -8,8 +8,6 @@ use Rattle.paper.proofs.Reading.{digits-low, digits-high, digits-end}
 use Rattle.reader.proofs.Numbers.{DigitsTo, digits-to-none, digits-to-more, digits-to-stop}
 use Rattle.reader.proofs.number.digits_end.Statement.{statement}
 use Rattle.reader.proofs.number.digits_end.Tie as tie
-use Rattle.reader.proofs.number.digits_end.Reads as reads
-use Rattle.reader.proofs.number.digits_end.Lts as lts
 
 abbrev Inv-loop : tie.InvT-loop
 Inv-loop s at i₀ i = (at ≤ i) × (i ≤ length s) × DigitsTo s at i
@@ -17,15 +15,12 @@ Inv-loop s at i₀ i = (at ≤ i) × (i ≤ length s) × DigitsTo s at i
 abbrev μ-loop : tie.MeasureT-loop
 μ-loop s at i₀ i = length s - i
 
--- src/number.rt:42:5
 loop-holds : tie.Need-loop-holds Inv-loop μ-loop
 loop-holds c = (omega arith, omega arith, digits-to-none (c .args .s .now) (c .args .at))
 
--- src/number.rt:43:17
 shared-slice-read-b : tie.Need-shared-slice-read-b Inv-loop μ-loop
 shared-slice-read-b c = search needs
 
--- src/number.rt:45:13
 returns : tie.Need-returns Inv-loop μ-loop
 returns c =
     let loop = c .before .before .before .loop in
@@ -34,7 +29,6 @@ returns c =
     (λ w. digits-low w (args .s .now) (loop .i) (omega arith) (c .if1 .taken))
     (loop .inv .2)
 
--- src/number.rt:48:13
 returns-2 : tie.Need-returns-2 Inv-loop μ-loop
 returns-2 c =
     let loop = c .before .before .before .before .loop in
@@ -43,22 +37,18 @@ returns-2 c =
     (λ w. digits-high w (args .s .now) (loop .i) (omega arith) (c .if2 .taken))
     (loop .inv .2)
 
--- src/number.rt:50:9
 add-i : tie.Need-add-i Inv-loop μ-loop
 add-i c = search needs
 
--- src/number.rt:42:5
 loop-less : tie.Need-loop-less Inv-loop μ-loop
 loop-less c = search needs
 
--- src/number.rt:42:5
 loop-again : tie.Need-loop-again Inv-loop μ-loop
 loop-again c =
     let loop = c .before .before .before .before .loop in
     let args = c .before .before .before .before .before .args in
     (omega arith, omega arith, digits-to-more (args .s .now) (args .at) (loop .i) (omega arith) (omega arith) (omega arith) (loop .inv .2))
 
--- src/number.rt:37:1
 returns-3 : tie.Need-returns-3 Inv-loop μ-loop
 returns-3 c =
     let loop = c .before .loop in

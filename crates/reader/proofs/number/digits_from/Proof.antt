@@ -11,10 +11,6 @@ use Rattle.paper.proofs.Reading.{digits-more, digits-low, digits-high, digits-e
 use Rattle.reader.proofs.Numbers.{digits-large}
 use Rattle.reader.proofs.number.digits_from.Statement.{statement}
 use Rattle.reader.proofs.number.digits_from.Tie as tie
-use Rattle.reader.proofs.number.digits_from.Reads as reads
-use Rattle.reader.proofs.number.digits_from.Lts as lts
-use Rattle.reader.proofs.number.digits_end.Reads as digits-end-reads
-use Rattle.reader.proofs.number.exceeds.Reads as exceeds-reads
 
 abbrev Inv-loop : tie.InvT-loop
 Inv-loop s at first v₀ i₀ v i = (at ≤ i) × (i ≤ length s) × (v < 2 ^ 64) × (digits first (drop at s) ≡ digits v (drop i s))
@@ -22,41 +18,33 @@ Inv-loop s at first v₀ i₀ v i = (at ≤ i) × (i ≤ length s) × (v < 2 ^ 6
 abbrev μ-loop : tie.MeasureT-loop
 μ-loop s at first v₀ i₀ v i = length s - i
 
--- src/number.rt:62:5
 loop-holds : tie.Need-loop-holds Inv-loop μ-loop
 loop-holds c = (omega arith, omega arith, omega arith, refl)
 
--- src/number.rt:63:17
 shared-slice-read-b : tie.Need-shared-slice-read-b Inv-loop μ-loop
 shared-slice-read-b c = search needs
 
--- src/number.rt:65:13
 returns : tie.Need-returns Inv-loop μ-loop
 returns c =
     let loop = c .before .before .before .loop in
     let s = c .before .before .before .before .before .args .s .now in
     record { reads = loop .inv .3 ∙ digits-low (loop .v) s (loop .i) (omega arith) (c .if1 .taken); onward = omega arith; inside = omega arith }
 
--- src/number.rt:68:13
 returns-2 : tie.Need-returns-2 Inv-loop μ-loop
 returns-2 c =
     let loop = c .before .before .before .before .loop in
     let s = c .before .before .before .before .before .before .args .s .now in
     record { reads = loop .inv .3 ∙ digits-high (loop .v) s (loop .i) (omega arith) (c .if2 .taken); onward = omega arith; inside = omega arith }
 
--- src/number.rt:70:17
 cast-d : tie.Need-cast-d Inv-loop μ-loop
 cast-d c = search needs
 
--- src/number.rt:71:12
 exceeds-requires : tie.Need-exceeds-requires Inv-loop μ-loop
 exceeds-requires c κs = search needs
 
--- src/number.rt:72:35
 digits-end-requires : tie.Need-digits-end-requires Inv-loop μ-loop
 digits-end-requires c κs = search needs
 
--- src/number.rt:72:13
 returns-3 : tie.Need-returns-3 Inv-loop μ-loop
 returns-3 c =
     let loop = c .before .before .before .before .before .before .before .loop in
@@ -76,30 +64,24 @@ one-more c =
     let s = c .before .before .before .before .before .before .before .before .args .s .now in
     leb-false (2 ^ 64) (loop .v * 10 + (getD s (loop .i) 0 - 48)) (sym (c .before .exceeds .ensures) ∙ c .if3 .left)
 
--- src/number.rt:74:13
 mul-v : tie.Need-mul-v Inv-loop μ-loop
 mul-v c = omega (arith, one-more c)
 
--- src/number.rt:74:13
 add-v : tie.Need-add-v Inv-loop μ-loop
 add-v c = omega (arith, one-more c)
 
--- src/number.rt:75:9
 add-i : tie.Need-add-i Inv-loop μ-loop
 add-i c = search needs
 
--- src/number.rt:62:5
 loop-less : tie.Need-loop-less Inv-loop μ-loop
 loop-less c = search needs
 
--- src/number.rt:62:5
 loop-again : tie.Need-loop-again Inv-loop μ-loop
 loop-again c =
     let loop = c .before .before .before .before .before .before .loop in
     let s = c .before .before .before .before .before .before .before .before .args .s .now in
     (omega arith, omega arith, omega (arith, one-more c), loop .inv .3 ∙ digits-more (loop .v) s (loop .i) (omega arith) (omega arith) (omega arith))
 
--- src/number.rt:56:1
 returns-4 : tie.Need-returns-4 Inv-loop μ-loop
 returns-4 c =
     let loop = c .before .loop in

@@ -4,18 +4,13 @@ use Rattle.reader.proofs.Numbers.{exceeds-not, exceeds-by}
 use borrow.Author.Needs.{needs}
 use Rattle.reader.proofs.number.exceeds.Statement.{statement}
 use Rattle.reader.proofs.number.exceeds.Tie as tie
-use Rattle.reader.proofs.number.exceeds.Reads as reads
-use Rattle.reader.proofs.number.exceeds.Lts as lts
 
--- src/number.rt:31:9
 returns : tie.Need-returns
 returns c = let a = c .before .args in exceeds-not (a .v) (a .d) (search needs) (c .if1 .taken)
 
--- src/number.rt:33:6
 sub-result : tie.Need-sub-result
 sub-result c = search needs
 
--- src/number.rt:26:1
 returns-2 : tie.Need-returns-2
 returns-2 c = let a = c .before .args in exceeds-by (a .v) (a .d) (search needs)
 

@@ -1,6 +1,6 @@
 -- `reader::number::number_at` meets its contract: a decimal is a number in its range, or is refused as it is. No loop.
 -- Assumes nothing.
-use mathlib.Core.Path.{_≡_, refl}
+use mathlib.Core.Path.{refl}
 use mathlib.Core.Logic.{inl, ⊎-elim}
 use native.Mathlib.Omega.{arith}
 use Rattle.paper.specs.Grammar.{decimal}
@@ -8,24 +8,16 @@ use Rattle.reader.proofs.Numbers.{decimal-got, within-below, within-abo
 use borrow.Author.Needs.{needs}
 use Rattle.reader.proofs.number.number_at.Statement.{statement}
 use Rattle.reader.proofs.number.number_at.Tie as tie
-use Rattle.reader.proofs.number.number_at.Reads as reads
-use Rattle.reader.proofs.number.number_at.Lts as lts
-use Rattle.reader.proofs.number.decimal_at.Reads as decimal-at-reads
-use Rattle.reader.proofs.number.refusal.Reads as refusal-reads
 
--- src/number.rt:117:9
 decimal-at-requires : tie.Need-decimal-at-requires
 decimal-at-requires c κs = search needs
 
--- src/number.rt:118:24
 enum-known-d : tie.Need-enum-known-d
 enum-known-d c = search needs
 
--- src/number.rt:119:9
 refusal-requires : tie.Need-refusal-requires
 refusal-requires c κs = search needs
 
--- src/number.rt:119:9
 returns : tie.Need-returns
 returns c =
     let d = c .before .before .decimal-at in
@@ -34,11 +26,9 @@ returns c =
     (number-refused (a .low) (a .high) (a .s .now) (a .at) (omega arith) (d .result) (d .ensures)
     (λ v e q. ⊎-elim (λ p. absurd (let z : ⊥ = omega arith in z)) (λ p. absurd (let z : ⊥ = omega arith in z)) (rw q at (c .before .match .keys2))))
 
--- src/number.rt:122:9
 refusal-requires-2 : tie.Need-refusal-requires-2
 refusal-requires-2 c κs = search needs
 
--- src/number.rt:122:9
 returns-2 : tie.Need-returns-2
 returns-2 c =
     let g = c .before .before .before .d .given in
@@ -46,11 +36,9 @@ returns-2 c =
     let got = decimal-got decimal (a .s .now) (a .at) (g .1) (c .before .before .before .before .before .decimal-at .ensures) in
     rw (c .refusal2 .ensures) (inl (refl, record { value = g .0 .0; outside = within-below (a .low) (a .high) (g .0 .0) (c .before .if1 .taken); taken = got }))
 
--- src/number.rt:125:9
 refusal-requires-3 : tie.Need-refusal-requires-3
 refusal-requires-3 c κs = search needs
 
--- src/number.rt:125:9
 returns-3 : tie.Need-returns-3
 returns-3 c =
     let g = c .before .before .before .before .d .given in
@@ -58,7 +46,6 @@ returns-3 c =
     let got = decimal-got decimal (a .s .now) (a .at) (g .1) (c .before .before .before .before .before .before .decimal-at .ensures) in
     rw (c .refusal3 .ensures) (inl (refl, record { value = g .0 .0; outside = within-above (a .low) (a .high) (g .0 .0) (c .before .if2 .taken); taken = got }))
 
--- src/number.rt:113:1
 returns-4 : tie.Need-returns-4
 returns-4 c =
     let g = c .before .before .before .d .given in

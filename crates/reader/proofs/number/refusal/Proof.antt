@@ -5,30 +5,22 @@ use Rattle.reader.specs.Numbers.{refusalOf}
 use borrow.Author.Needs.{needs}
 use Rattle.reader.proofs.number.refusal.Statement.{statement}
 use Rattle.reader.proofs.number.refusal.Tie as tie
-use Rattle.reader.proofs.number.refusal.Reads as reads
-use Rattle.reader.proofs.number.refusal.Lts as lts
 
--- src/number.rt:106:27
 enum-known-d : tie.Need-enum-known-d
 enum-known-d c = search needs
 
--- src/number.rt:107:24
 enum-known-d-2 : tie.Need-enum-known-d-2
 enum-known-d-2 c = search needs
 
--- src/number.rt:108:24
 enum-known-d-3 : tie.Need-enum-known-d-3
 enum-known-d-3 c = search needs
 
--- src/number.rt:102:1
 returns : tie.Need-returns
 returns c = sym (ap refusalOf (c .before .d .given .1))
 
--- src/number.rt:102:1
 returns-2 : tie.Need-returns-2
 returns-2 c = sym (ap refusalOf (c .before .d2 .given .1))
 
--- src/number.rt:102:1
 returns-3 : tie.Need-returns-3
 returns-3 c = sym (ap refusalOf (c .before .d3 .given .1))
 
