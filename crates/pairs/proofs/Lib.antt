@@ -1,0 +1,5 @@
+pub mod Walking
+pub mod Storing
+pub mod Multiplying
+pub mod Adding
+pub mod Summing

@@ -1,0 +1,109 @@
+-- `pairs::all_stored` meets its contract. The loop's invariant: the pairs from i on settle the answer.
+-- The measure is what is left of the line. Assumes nothing.
+use Prim.Native.Nat.{_-_}
+use native.Mathlib.Omega.{arith}
+use borrow.Author.Needs.{needs}
+use lib.ListN.{length}
+use Rattle.table.proofs.Laws.{found-at, found-nothing}
+use Rattle.pairs.proofs.Walking.{next-pair, index-good, factor-inside, factor-whole}
+use Rattle.pairs.proofs.Storing.{AllLeft, all-start, all-end, all-missing, all-more}
+use Rattle.pairs.proofs.all_stored.Statement.{statement}
+use Rattle.pairs.proofs.all_stored.Tie as tie
+
+abbrev Inv-loop : tie.InvT-loop
+Inv-loop indices n line at i₀ i = AllLeft indices n line at i
+
+abbrev μ-loop : tie.MeasureT-loop
+μ-loop indices n line at i₀ i = length line - i
+
+loop-holds : tie.Need-loop-holds Inv-loop μ-loop
+loop-holds c =
+    let b = c .before in
+    all-start (b .args .indices .now) (b .args .n) (b .args .line .now) (b .args .at) (b .pre .1 .0) (b .pre .1 .1)
+
+add-take-index : tie.Need-add-take-index Inv-loop μ-loop
+add-take-index c = search needs
+
+take-index-requires : tie.Need-take-index-requires Inv-loop μ-loop
+take-index-requires c κs =
+    let l = c .before .loop in
+    let s = c .before .before .before .args .line .now in
+    index-good s (l .i) (l .inv .left) (next-pair s (l .i) (l .inv .left) (l .inv .reads) (c .loop-test .taken))
+
+find-requires : tie.Need-find-requires Inv-loop μ-loop
+find-requires c κs = search needs
+
+enum-told : tie.Need-enum-told Inv-loop μ-loop
+enum-told c = search needs
+
+enum-told-2 : tie.Need-enum-told-2 Inv-loop μ-loop
+enum-told-2 c = search needs
+
+returns : tie.Need-returns Inv-loop μ-loop
+returns c =
+    let f = c .before .before in
+    let t = f .before in
+    let l = t .before .before .loop in
+    let a = t .before .before .before .before .args in
+    all-missing (a .indices .now) (a .n) (a .line .now) (a .at) (l .i) (l .inv) (t .before .loop-test .taken) (t .take-index .result .value) (t .take-index .result .end)
+    (t .take-index .ensures) (found-nothing (c .enum-told2 .given .1) (f .find .ensures))
+
+add-skip-field : tie.Need-add-skip-field Inv-loop μ-loop
+add-skip-field c =
+    let t = c .before .before .before .before in
+    let l = t .before .before .loop in
+    let s = t .before .before .before .before .args .line .now in
+    let h = factor-inside s (l .i) (l .inv .left) (next-pair s (l .i) (l .inv .left) (l .inv .reads) (t .before .loop-test .taken)) (t .take-index .result .value) (t .take-index .result .end) (t .take-index .ensures) in
+    search needs
+
+skip-field-requires : tie.Need-skip-field-requires Inv-loop μ-loop
+skip-field-requires c κs =
+    let t = c .before .before .before .before in
+    let l = t .before .before .loop in
+    let s = t .before .before .before .before .args .line .now in
+    let n = next-pair s (l .i) (l .inv .left) (l .inv .reads) (t .before .loop-test .taken) in
+    let h = factor-inside s (l .i) (l .inv .left) n (t .take-index .result .value) (t .take-index .result .end) (t .take-index .ensures) in
+    (omega arith, factor-whole s (l .i) (l .inv .left) n (t .take-index .result .value) (t .take-index .result .end) (t .take-index .ensures))
+
+loop-less : tie.Need-loop-less Inv-loop μ-loop
+loop-less c =
+    let t = c .before .before .before .before .before in
+    let l = t .before .before .loop in
+    let g = t .take-index .ensures in
+    let f = c .skip-field .ensures .taken in
+    let h = t .before .loop-test .taken in
+    omega (arith, g .onward, f .onward, f .inside, h)
+
+loop-again : tie.Need-loop-again Inv-loop μ-loop
+loop-again c =
+    let f = c .before .before .before .before in
+    let t = f .before in
+    let l = t .before .before .loop in
+    let a = t .before .before .before .before .args in
+    all-more (a .indices .now) (a .n) (a .line .now) (a .at) (l .i) (l .inv) (t .before .loop-test .taken) (t .take-index .result .value) (t .take-index .result .end)
+    (t .take-index .ensures) _ (c .skip-field .result) (found-at (c .before .before .enum-told .given .1) (f .find .ensures)) (c .skip-field .ensures)
+
+returns-2 : tie.Need-returns-2 Inv-loop μ-loop
+returns-2 c =
+    let l = c .before .loop in
+    let a = c .before .before .before .args in
+    all-end (a .indices .now) (a .n) (a .line .now) (a .at) (l .i) (l .inv) (c .loop-test .left)
+
+pub all-stored-spec : {M : Type 1} → statement M
+all-stored-spec =
+    tie.close
+    (tie.spec
+    Inv-loop
+    μ-loop
+    loop-holds
+    add-take-index
+    take-index-requires
+    find-requires
+    enum-told
+    enum-told-2
+    returns
+    add-skip-field
+    skip-field-requires
+    loop-less
+    loop-again
+    returns-2)

@@ -1,0 +1,232 @@
+// The pairs of a lin line: whether they name stored polynomials, and the products of their factors with these.
+ghost use mathlib.Core.Path.{_≡_};
+ghost use mathlib.Core.Bool.{true};
+ghost use mathlib.Core.List.{List, map};
+ghost use Prim.Native.Nat.{ℕ, _+_, _*_, _≤_, _<_};
+ghost use lib.ListN.{length, drop};
+ghost use Rattle.ground.specs.Lists.{every};
+ghost use Rattle.limits.specs.Limits.{storedPolynomials, fieldTerms, lineProducts, termWords, leastScratch};
+ghost use Rattle.algebra.specs.Polynomial.{products};
+ghost use Rattle.words.specs.Words.{number};
+ghost use Rattle.terms.specs.Terms.{decode, rounded, Appended};
+ghost use Rattle.paper.specs.Statement.{Pair};
+ghost use Rattle.paper.specs.State.{stored, find};
+ghost use Rattle.paper.specs.Grammar.{decimal};
+ghost use Rattle.paper.specs.Meaning.{isIndex};
+ghost use Rattle.reader.specs.Places.{Got};
+ghost use Rattle.fields.specs.Fields.{Good};
+ghost use Rattle.table.specs.Table.{polyAt, firsts, entryAt};
+ghost use Rattle.regions.specs.Regions.{factorAt, goalAt};
+ghost use Rattle.pairs.specs.Pairs.{PairsAt, StoredPairs, PoolHolds, Summed, Names, PlaceOf, Lies, Extended, PairAdded};
+use reader::number::Decimal;
+use table::Column;
+use table::Found;
+use words::Set;
+
+// Too many products, or how many there are and the variables that the factors make seen.
+pub struct Sum {
+    pub over: bool,
+    pub terms: usize,
+    pub seen: Set,
+}
+
+// A sum with one pair more, and the end of this pair.
+pub struct Added {
+    pub sum: Sum,
+    pub end: usize,
+}
+
+// An index and its end.
+pub struct Index {
+    pub value: u32,
+    pub end: usize,
+}
+
+// Where the polynomial that an index names stands in the columns, and the end of the index.
+pub struct Place {
+    pub place: usize,
+    pub end: usize,
+}
+
+// The index at at.
+fn take_index(line: &[u8], at: usize) -> Index
+    requires { ⌜ Good decimal isIndex (now line) at ⌝ }
+    ensures { λ r. ⌜ Got decimal (now (line .entry)) at (r .value) (r .end) ⌝ }
+{
+    let d = reader::number::decimal_at(line, at);
+    let Decimal::Value(value, end) = d else {
+        return Index { value: 0, end: at };
+    };
+    Index {
+        value: value as u32,
+        end,
+    }
+}
+
+// Whether every pair from the tab at at on names one of the first n indices of a column.
+pub fn all_stored(indices: &Column, n: usize, line: &[u8], at: usize) -> bool
+    requires { ⌜ (n ≤ storedPolynomials) × ((qs : List Pair) × PairsAt (now line) at qs) ⌝ }
+    ensures { λ r. ⌜
+        ((qs : List Pair) → PairsAt (now (line .entry)) at qs → (starts counts pool : List ℕ)
+        → r ≡ every (stored (firsts (entryAt (now (indices .entry)) starts counts pool) n)) (map (λ q. q .index) qs))
+        ⌝ }
+{
+    let mut i = at;
+    while i < line.len() {
+        let x = take_index(line, i + 1);
+        let f = table::find(indices, n, x.value);
+        let Found::At(_) = f else {
+            return false;
+        };
+        i = reader::find::skip_field(line, x.end + 1);
+    }
+    true
+}
+
+// Writes the products of the f terms of the factor's region with the m terms of b behind the n terms from word 0 on.
+fn append_products(scratch: &mut [u64], n: usize, f: usize, b: &[u64], m: usize)
+    requires { ⌜
+        (n + f * m ≤ lineProducts) × (f ≤ fieldTerms) × (m * termWords ≤ length (now b))
+        × (goalAt ≤ length (now scratch))
+        ⌝ }
+    ensures { λ _. ⌜ Appended 0 n (f * m) (rounded (products (decode f (drop factorAt (now (scratch .entry)))) (decode m (now (b .entry))))) (now (scratch .entry)) (now (scratch .exit)) ⌝ }
+{
+    let mut done = n;
+    let mut i = 0;
+    while i < f {
+        let t = terms::read_term(scratch, regions::FACTOR + i * limits::TERM_WORDS);
+        terms::append_times(&mut scratch[..regions::STATED], done, t, b, m);
+        done += m;
+        i += 1;
+    }
+}
+
+// The place of the polynomial that the index at at names.
+fn place_of(indices: &Column, n: usize, line: &[u8], at: usize) -> Place
+    requires { ⌜ (n ≤ storedPolynomials) × Names (now indices) n (now line) at ⌝ }
+    ensures { λ r. ⌜ PlaceOf (now (indices .entry)) n (now (line .entry)) at r ⌝ }
+{
+    let x = take_index(line, at);
+    let f = table::find(indices, n, x.value);
+    let Found::At(place) = f else {
+        return Place { place: 0, end: at };
+    };
+    Place { place, end: x.end }
+}
+
+// Puts the products of the f terms of the factor's region with the j-th polynomial behind the terms from word 0 on, unless there are too many.
+fn add_products<'a>(
+    starts: &'a Column,
+    counts: &'a Column,
+    j: usize,
+    pool: &[u64],
+    scratch: &mut [u64],
+    f: usize,
+    terms: usize,
+    seen: Set,
+) -> Sum
+    requires { ⌜
+        Lies (now starts) (now counts) (now pool) j × (f ≤ fieldTerms) × (terms ≤ lineProducts)
+        × (leastScratch ≤ length (now scratch))
+        ⌝ }
+    ensures { λ r. ⌜ Extended (decode f (drop factorAt (now (scratch .entry)))) (polyAt (now (starts .entry)) (now (counts .entry)) (now (pool .entry)) j) terms (number seen) (now (scratch .entry)) (now (scratch .exit)) r ⌝ }
+{
+    let m = counts[j] as usize;
+    let count = terms + f * m;
+    if limits::LINE_PRODUCTS < count {
+        return Sum {
+            over: true,
+            terms,
+            seen,
+        };
+    }
+    let start = starts[j] as usize * limits::TERM_WORDS;
+    append_products(scratch, terms, f, &pool[start..], m);
+    let variables = terms::variables(&scratch[regions::FACTOR..], f);
+    Sum {
+        over: false,
+        terms: count,
+        seen: words::union(variables, seen),
+    }
+}
+
+// Puts the products of the pair behind the tab at at behind the terms from word 0 on, unless there are too many.
+fn add_pair<'a>(
+    indices: &'a Column,
+    starts: &'a Column,
+    counts: &'a Column,
+    n: usize,
+    line: &[u8],
+    at: usize,
+    pool: &[u64],
+    scratch: &mut [u64],
+    k: u32,
+    terms: usize,
+    seen: Set,
+) -> Added
+    requires { ⌜
+        StoredPairs (firsts (entryAt (now indices) (now starts) (now counts) (now pool)) n) (now line) at
+        × (at < length (now line)) × PoolHolds (now starts) (now counts) n (now pool)
+        × (leastScratch ≤ length (now scratch)) × (1 ≤ k) × (k ≤ 64) × (terms ≤ lineProducts)
+        ⌝ }
+    ensures { λ r. ⌜ PairAdded k (find (firsts (entryAt (now (indices .entry)) (now (starts .entry)) (now (counts .entry)) (now (pool .entry))) n)) (now (line .entry)) at terms (number seen) (now (scratch .entry)) (now (scratch .exit)) r ⌝ }
+{
+    let p = place_of(indices, n, line, at + 1);
+    let f = regions::read_reduced(line, p.end + 1, scratch, regions::FACTOR, k);
+    let sum = add_products(starts, counts, p.place, pool, scratch, f.terms, terms, seen);
+    Added { sum, end: f.end }
+}
+
+// Writes the products of the pairs from the tab at at on from word 0 of the scratch on.
+pub fn sum_pairs<'a>(
+    indices: &'a Column,
+    starts: &'a Column,
+    counts: &'a Column,
+    n: usize,
+    line: &[u8],
+    at: usize,
+    pool: &[u64],
+    scratch: &mut [u64],
+    k: u32,
+    seen: Set,
+) -> Sum
+    requires { ⌜
+        StoredPairs (firsts (entryAt (now indices) (now starts) (now counts) (now pool)) n) (now line) at
+        × PoolHolds (now starts) (now counts) n (now pool)
+        × (leastScratch ≤ length (now scratch)) × (1 ≤ k) × (k ≤ 64)
+        ⌝ }
+    ensures { λ r. ⌜
+        ((qs : List Pair) → PairsAt (now (line .entry)) at qs
+        → Summed k (find (firsts (entryAt (now (indices .entry)) (now (starts .entry)) (now (counts .entry)) (now (pool .entry))) n)) qs (number seen) (now (scratch .entry)) (now (scratch .exit)) r)
+        ⌝ }
+{
+    let mut terms = 0;
+    let mut all = seen;
+    let mut i = at;
+    while i < line.len() {
+        let a = add_pair(
+            indices,
+            starts,
+            counts,
+            n,
+            line,
+            i,
+            pool,
+            scratch,
+            k,
+            terms,
+            all,
+        );
+        if a.sum.over {
+            return a.sum;
+        }
+        terms = a.sum.terms;
+        all = a.sum.seen;
+        i = a.end;
+    }
+    Sum {
+        over: false,
+        terms,
+        seen: all,
+    }
+}

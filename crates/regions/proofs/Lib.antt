@@ -1,0 +1,3 @@
+pub mod Reducing
+pub mod Goals
+pub mod Squares

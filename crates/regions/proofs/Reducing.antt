@@ -1,0 +1,135 @@
+-- A run that was reduced in a lent region: a field that was read there, and -v + p. Assumes nothing.
+use mathlib.Core.Path.{_≡_, sym, ap, _∙_, subst}
+use mathlib.Core.Bool.{Bool, true, false}
+use mathlib.Core.List.{List, [], _∷_, _++_}
+use Prim.Native.Nat.{ℕ, _+_, _-_, _*_, _^_, _≤_, _<_}
+use native.Mathlib.Nat.{mul-one}
+use native.Mathlib.Omega.{arith}
+use lib.Bits.{bitOr, or-zero-r}
+use lib.Dec.{ltb}
+use lib.ListN.{length, drop}
+use lib.Seq.{paste}
+use borrow.Author.Tests.{not-true, ltb-false}
+use borrow.Rule.Slice.PartMut.{putMid}
+use Rattle.ground.specs.Congruence.{Same}
+use Rattle.ground.specs.Parts.{part, Within}
+use Rattle.ground.proofs.Congruence.{same-refl, same-eq, same-add, _⊳_}
+use Rattle.ground.proofs.Parts.{within-trans, within-wider, length-part, put-part, put-within}
+use Rattle.ground.proofs.Tests.{and-left, and-right}
+use Rattle.limits.specs.Limits.{fieldTerms, termWords}
+use Rattle.algebra.specs.Polynomial.{Term, Poly, keep, sumIf, reduce, minusOne, extension}
+use Rattle.algebra.proofs.Values.{sumIf-append}
+use Rattle.algebra.proofs.Sums.{reduce-sums}
+use Rattle.words.specs.Words.{number}
+use Rattle.words.proofs.Wrap.{same-negative}
+use Rattle.terms.specs.Terms.{termOf, decode, Leaves}
+use Rattle.terms.proofs.Decode.{decode-part, behind-within, decode-behind}
+use Rattle.paper.specs.Text.{Bytes}
+use Rattle.paper.specs.Statement.{Written}
+use Rattle.paper.specs.Grammar.{polynomial}
+use Rattle.paper.specs.Meaning.{inRange, tooManyTerms}
+use Rattle.reader.specs.Fields.{fewTerms}
+use Rattle.fields.specs.Fields.{Good, isField, FieldAt}
+use Rattle.fields.specs.declared.FieldRun.{FieldRun}
+use Rattle.fields.proofs.Meaning.{worded-reduced}
+use Rattle.fields.proofs.Taking.{same-value}
+use Rattle.regions.specs.Regions.{statedAt, factorAt, ReducedAt, StatedIs}
+
+-- the region of s from a up to e was lent, and y came back with the terms q at its front
+module _ (a e n m : ℕ) (q : Poly) (s y : List ℕ) (h : a ≤ e) (l : e ≤ length s) (f : n * termWords ≤ e - a) (c : Leaves n q (part a (e - a) s) y m) where
+  pub lent-run : decode m (drop a (putMid a (e - a) s y)) ≡ q
+  lent-run = sym (decode-part m a (e - a) (putMid a (e - a) s y) (omega (arith, c .few))) ∙ ap (decode m) (put-part s y a e h l (c .within .same)) ∙ c .terms
+
+  pub lent-within : Within a e s (putMid a (e - a) s y)
+  lent-within = put-within s y a e h l (c .within .same)
+
+-- ---- a field
+field-ranged : (p : Written) → isField p ≡ true → inRange p ≡ true
+unfolding isField
+field-ranged p e = and-left (inRange p) (fewTerms p) e
+
+field-few : (p : Written) → isField p ≡ true → length p ≤ fieldTerms
+unfolding isField fewTerms tooManyTerms
+field-few p e = ltb-false fieldTerms (length p) (not-true (ltb fieldTerms (length p)) (and-right (inRange p) (fewTerms p) e))
+
+-- a field that was read into the region of s from base on, which came back as y
+module _ (line : Bytes) (at base : ℕ) (s y : List ℕ) (f : FieldRun) (g : Good polynomial isField line at) (l : base + fieldTerms * termWords ≤ length s)
+    (r : FieldAt line at (part base (base + fieldTerms * termWords - base) s) y f) where
+  abbrev e : ℕ
+  e = base + fieldTerms * termWords
+
+  abbrev x : List ℕ
+  x = putMid base (e - base) s y
+
+  field : isField (r .value) ≡ true
+  field = subst (λ (p : Written). isField p ≡ true) (same-value (g .reads) (r .taken .reads)) (g .passes)
+
+  few : f .terms ≤ fieldTerms
+  few = omega (arith, r .terms, field-few (r .value) field)
+
+  change : Within base e s x
+  change = put-within s y base e (omega arith) l (r .within .same)
+
+  pub read-room : f .terms * termWords ≤ length (part base (e - base) x)
+  read-room = let w = change .same in omega (arith, few, length-part base (e - base) x (omega arith))
+
+  pub read-reduced : (k m : ℕ) (z : List ℕ) → k ≤ 64 → Leaves (f .terms) (reduce k (decode (f .terms) (part base (e - base) x))) (part base (e - base) x) z m
+      → ReducedAt line at k base s (putMid base (e - base) x z) (record { terms = m; end = f .end })
+  read-reduced k m z h c = record {
+    value = r .value;
+    taken = r .taken;
+    run = lent-run base e (f .terms) m _ x z (omega arith) long room c
+        ∙ ap (λ (w : List ℕ). reduce k (decode (f .terms) w)) (put-part s y base e (omega arith) l (r .within .same))
+        ∙ ap (reduce k) (r .run) ∙ worded-reduced k h (r .value) (field-ranged (r .value) field);
+    few = omega (arith, c .few, few);
+    within = within-trans change (lent-within base e (f .terms) m _ x z (omega arith) long room c);
+  }
+    where
+      long : e ≤ length x
+      long = omega (arith, change .same)
+
+      room : f .terms * termWords ≤ e - base
+      room = omega (arith, few)
+
+-- ---- -v + p
+-- 2 ^ 64 - 1 is -1
+last-first : (k : ℕ) → k ≤ 64 → (m : ℕ) (p : Poly) → reduce k (p ++ (record { set = m; coef = 2 ^ 64 - 1 } ∷ [])) ≡ reduce k (record { set = m; coef = minusOne k } ∷ p)
+last-first k h m p = reduce-sums k (p ++ (record { set = m; coef = 2 ^ 64 - 1 } ∷ [])) (record { set = m; coef = minusOne k } ∷ p) same
+  where
+    one : (b : Bool) → Same (2 ^ k) (keep b (2 ^ 64 - 1)) (keep b (minusOne k))
+    one true = same-negative k h 1 (omega arith) ⊳ same-eq (mul-one (2 ^ k - 1))
+    one false = same-refl
+
+    same : (f : ℕ → Bool) → Same (2 ^ k) (sumIf f (p ++ (record { set = m; coef = 2 ^ 64 - 1 } ∷ []))) (keep (f m) (minusOne k) + sumIf f p)
+    same f =
+        same-eq (sumIf-append f p (record { set = m; coef = 2 ^ 64 - 1 } ∷ []) ∙ omega arith)
+        ⊳ same-add {a = keep (f m) (2 ^ 64 - 1)} {c = sumIf f p} (one (f m)) same-refl
+
+-- the term t written behind p, and the stated region reduced
+pub defined : (k v n m a : ℕ) (s t x y : List ℕ) → k ≤ 64 → n < fieldTerms → factorAt ≤ length s → a ≡ bitOr (2 ^ v) (number (0 ∷ 0 ∷ 0 ∷ 0 ∷ []))
+    → length t ≡ termWords → termOf t ≡ record { set = a; coef = 2 ^ 64 - 1 } → x ≡ paste s (statedAt + n * termWords) t termWords
+    → Leaves (n + 1) (reduce k (decode (n + 1) (part statedAt (factorAt - statedAt) x))) (part statedAt (factorAt - statedAt) x) y m
+    → StatedIs (extension k v (decode n (drop statedAt s))) s (putMid statedAt (factorAt - statedAt) x y) m
+unfolding extension number
+defined k v n m a s t x y h hn l ea lt et ex c = record {
+  run = lent-run statedAt factorAt (n + 1) m _ x y (omega arith) long room c ∙ ap (reduce k) terms ∙ last-first k h (2 ^ v) (decode n (drop statedAt s));
+  few = omega (arith, c .few);
+  within = within-trans change (lent-within statedAt factorAt (n + 1) m _ x y (omega arith) long room c);
+}
+  where
+    room : (n + 1) * termWords ≤ factorAt - statedAt
+    room = omega arith
+
+    change : Within statedAt factorAt s x
+    change = within-wider statedAt (statedAt + n * termWords) (statedAt + n * termWords + termWords) factorAt s x (omega arith) (omega arith)
+        (behind-within statedAt n s t x (omega arith) lt ex)
+
+    long : factorAt ≤ length x
+    long = omega (arith, change .same)
+
+    term : termOf t ≡ record { set = 2 ^ v; coef = 2 ^ 64 - 1 }
+    term = et ∙ ap (λ (w : ℕ). record { set = w; coef = 2 ^ 64 - 1 }) (ea ∙ or-zero-r (2 ^ v))
+
+    terms : decode (n + 1) (part statedAt (factorAt - statedAt) x) ≡ decode n (drop statedAt s) ++ (record { set = 2 ^ v; coef = 2 ^ 64 - 1 } ∷ [])
+    terms = decode-part (n + 1) statedAt (factorAt - statedAt) x room ∙ decode-behind statedAt n s t x (omega arith) lt ex
+        ∙ ap (λ (u : Term). decode n (drop statedAt s) ++ (u ∷ [])) term

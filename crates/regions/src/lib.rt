@@ -1,0 +1,118 @@
+// The scratch in regions: the products of a line from word 0 on, then a stated polynomial or p, a factor, and the goal.
+ghost use mathlib.Core.Path.{_≡_};
+ghost use mathlib.Core.List.{List};
+ghost use Prim.Native.Nat.{ℕ, _+_, _*_, _≤_, _<_};
+ghost use lib.ListN.{length, drop};
+ghost use Rattle.ground.specs.Parts.{Within};
+ghost use Rattle.limits.specs.Limits.{fieldTerms, lineProducts, termWords, variables, leastScratch};
+ghost use Rattle.algebra.specs.Polynomial.{equal, products, product, extension};
+ghost use Rattle.terms.specs.Terms.{decode, rounded, Leaves};
+ghost use Rattle.paper.specs.Grammar.{polynomial};
+ghost use Rattle.paper.specs.Rules.{holdsGoal};
+ghost use Rattle.fields.specs.Fields.{Good, isField};
+ghost use Rattle.table.specs.Table.{PackedColumns, firsts, entryAt};
+ghost use Rattle.regions.specs.Regions.{statedAt, goalAt, ReducedAt, StatedIs};
+use fields::FieldRun;
+use table::Column;
+
+// The words of a region for one field, and where the regions begin.
+pub const REGION: usize = limits::FIELD_TERMS * limits::TERM_WORDS;
+
+pub const STATED: usize = limits::LINE_PRODUCTS * limits::TERM_WORDS;
+
+pub const FACTOR: usize = STATED + REGION;
+
+pub const GOAL: usize = FACTOR + REGION;
+
+// Reads the field at at into the region from word base on, and reduces it there modulo 2 ^ k.
+pub fn read_reduced(line: &[u8], at: usize, scratch: &mut [u64], base: usize, k: u32) -> FieldRun
+    requires { ⌜
+        Good polynomial isField (now line) at × (base + fieldTerms * termWords ≤ length (now scratch)) × (1 ≤ k)
+        × (k ≤ 64)
+        ⌝ }
+    ensures { λ r. ⌜ ReducedAt (now (line .entry)) at k base (now (scratch .entry)) (now (scratch .exit)) r ⌝ }
+{
+    let last = base + REGION;
+    let f = fields::read_field(line, at, &mut scratch[base..last]);
+    let n = f.terms;
+    let terms = terms::reduce(&mut scratch[base..last], n, k);
+    FieldRun { terms, end: f.end }
+}
+
+// Whether the n terms of a goal are one of the stored polynomials.
+pub fn is_stored<'a>(
+    starts: &'a Column,
+    counts: &'a Column,
+    stored: usize,
+    pool: &[u64],
+    goal: &[u64],
+    n: usize,
+) -> bool
+    requires { ⌜
+        ((used : ℕ) × PackedColumns (now starts) (now counts) stored used × (used * termWords ≤ length (now pool)))
+        × (n * termWords ≤ length (now goal))
+        ⌝ }
+    ensures { λ r. ⌜ ((indices : List ℕ) → r ≡ holdsGoal (decode n (now (goal .entry))) (firsts (entryAt indices (now (starts .entry)) (now (counts .entry)) (now (pool .entry))) stored)) ⌝ }
+{
+    let mut j = 0;
+    while j < stored {
+        let at = starts[j] as usize * limits::TERM_WORDS;
+        let m = counts[j] as usize;
+        if terms::same_run(&pool[at..], m, goal, n) {
+            return true;
+        }
+        j += 1;
+    }
+    false
+}
+
+// Writes the products of the n terms of the stated region with each other from word 0 on, coefficients modulo 2 ^ 64.
+fn square(scratch: &mut [u64], n: usize)
+    requires { ⌜ (n * n ≤ lineProducts) × (leastScratch ≤ length (now scratch)) ⌝ }
+    ensures { λ _. ⌜ Leaves lineProducts (rounded (products (decode n (drop statedAt (now (scratch .entry)))) (decode n (drop statedAt (now (scratch .entry)))))) (now (scratch .entry)) (now (scratch .exit)) (n * n) ⌝ }
+{
+    let mut i = 0;
+    while i < n {
+        let t = terms::read_term(scratch, STATED + i * limits::TERM_WORDS);
+        terms::append_times_within(scratch, 0, i * n, t, STATED, n);
+        i += 1;
+    }
+}
+
+// Whether the m terms from word 0 on are the n terms of the stated region.
+fn is_stated(scratch: &[u64], m: usize, n: usize) -> bool
+    requires { ⌜ (m ≤ lineProducts) × (n * n ≤ lineProducts) × (leastScratch ≤ length (now scratch)) ⌝ }
+    ensures { λ r. ⌜ r ≡ equal (decode m (now (scratch .entry))) (decode n (drop statedAt (now (scratch .entry)))) ⌝ }
+{
+    terms::same_run(&scratch[..STATED], m, &scratch[STATED..], n)
+}
+
+// Whether the n terms of the stated region are their own square modulo 2 ^ k.
+pub fn is_bit(scratch: &mut [u64], n: usize, k: u32) -> bool
+    requires { ⌜ (n * n ≤ lineProducts) × (leastScratch ≤ length (now scratch)) × (1 ≤ k) × (k ≤ 64) ⌝ }
+    ensures equals { λ r. ⌜ r ≡ equal (product k (decode n (drop statedAt (now (scratch .entry)))) (decode n (drop statedAt (now (scratch .entry))))) (decode n (drop statedAt (now (scratch .entry)))) ⌝ }
+    ensures within { λ _. ⌜ Within 0 statedAt (now (scratch .entry)) (now (scratch .exit)) ⌝ }
+{
+    square(scratch, n);
+    let m = terms::reduce(&mut scratch[..STATED], n * n, k);
+    is_stated(scratch, m, n)
+}
+
+// Makes -v + p of p, the n terms of the stated region, and gives how many terms it has.
+pub fn define(scratch: &mut [u64], n: usize, v: usize, k: u32) -> usize
+    requires { ⌜ (n < fieldTerms) × (v < variables) × (leastScratch ≤ length (now scratch)) × (1 ≤ k) × (k ≤ 64) ⌝ }
+    ensures { λ r. ⌜ StatedIs (extension k v (decode n (drop statedAt (now (scratch .entry))))) (now (scratch .entry)) (now (scratch .exit)) r ⌝ }
+{
+    let set = words::with([0; limits::SET_WORDS], v);
+    let t = terms::term_of(set, u64::MAX);
+    terms::write_term(scratch, STATED + n * limits::TERM_WORDS, t);
+    terms::reduce(&mut scratch[STATED..FACTOR], n + 1, k)
+}
+
+// Whether the n terms of the stated region are the goal.
+pub fn is_goal(scratch: &[u64], n: usize, goal_terms: usize) -> bool
+    requires { ⌜ (n ≤ fieldTerms) × («goal_terms» ≤ fieldTerms) × (leastScratch ≤ length (now scratch)) ⌝ }
+    ensures { λ r. ⌜ r ≡ equal (decode n (drop statedAt (now (scratch .entry)))) (decode «goal_terms» (drop goalAt (now (scratch .entry)))) ⌝ }
+{
+    terms::same_run(&scratch[STATED..], n, &scratch[GOAL..], goal_terms)
+}
