@@ -1,29 +1,30 @@
 -- Terms put behind each other in a run, and the field that they make up. Assumes nothing.
-use mathlib.Core.Path.{_≡_, refl, sym, ap, ap₂, _∙_, subst}
-use mathlib.Core.Bool.{Bool, true, false, _&&_, not, cond}
+use mathlib.Core.Path.{_≡_, refl, sym, ap, ap₂, _∙_}
+use mathlib.Core.Bool.{Bool, true, _&&_, not}
 use mathlib.Core.Logic.{⊎-elim}
-use mathlib.Core.List.{List, [], _∷_, _++_, map, append-nil, append-assoc}
+use mathlib.Core.List.{List, [], _∷_, _++_, append-nil, append-assoc}
 use Prim.Native.Nat.{ℕ, suc, _+_, _*_, _≤_, _<_}
 use Prim.Native.Char.{code}
 use native.Mathlib.Numerals.{add-one}
 use native.Mathlib.Omega.{arith}
-use lib.Dec.{eqb, leb, ltb}
+use lib.Dec.{ltb}
 use lib.ListN.{length, drop, getD, length-append, length-drop}
 use lib.Seq.{drop-cons, paste}
-use borrow.Author.Tests.{leb-true, ltb-true, ltb-false, lt-ltb, not-true}
+use borrow.Author.Tests.{ltb-true, ltb-false, lt-ltb, not-true}
 use Rattle.ground.specs.Lists.{every}
 use Rattle.ground.specs.Parts.{Within}
 use Rattle.ground.proofs.Tests.{split, and-left, and-right, and-both}
 use Rattle.ground.proofs.Parts.{within-refl, within-trans, within-wider}
-use Rattle.limits.specs.Limits.{termWords, fieldTerms, greatestMagnitude}
+use Rattle.limits.specs.Limits.{termWords, fieldTerms}
 use Rattle.algebra.specs.Polynomial.{Term, Poly}
-use Rattle.terms.specs.Terms.{termOf, decode}
+use Rattle.terms.specs.Terms.{decode}
 use Rattle.terms.proofs.Decode.{behind-within, decode-behind}
 use Rattle.paper.specs.Text.{Bytes}
-use Rattle.paper.specs.Reader.{Read, got, each}
+use Rattle.paper.specs.Reader.{got, each}
 use Rattle.paper.specs.Statement.{WrittenTerm, Written}
-use Rattle.paper.specs.Grammar.{decimal, sign, term, isZero, asWritten, polynomial}
-use Rattle.paper.specs.Meaning.{isVariable, isTerm, inRange, tooManyTerms}
+use Rattle.paper.specs.Grammar.{decimal, term, isZero, asWritten, polynomial}
+use Rattle.paper.specs.Meaning.{isTerm, inRange, tooManyTerms}
+use Rattle.paper.proofs.Ranges.{term-in-range, cond-no, cond-yes}
 use Rattle.paper.proofs.Reading.{term-parts, PolynomialParts, polynomial-parts, takes-polynomial, after-length, each-empty, term-zero, decimal-zero}
 use Rattle.reader.specs.Places.{Got}
 use Rattle.reader.specs.Fields.{moreTerms, fewTerms, fewMore}
@@ -99,13 +100,6 @@ rest-field t p e =
     let l = ltb-false fieldTerms (suc (length p)) (not-true (ltb fieldTerms (suc (length p))) (and-right (isTerm t && every isTerm p) (not (ltb fieldTerms (suc (length p)))) e)) in
     and-both (every isTerm p) (ltb (length p) fieldTerms) (and-right (isTerm t) (every isTerm p) r) (lt-ltb (length p) fieldTerms (omega arith))
 
-term-some : (t : WrittenTerm) → isTerm t ≡ true → 1 ≤ t .magnitude
-unfolding isTerm
-term-some t e =
-    leb-true 1 (t .magnitude)
-    (and-left (leb 1 (t .magnitude)) (leb (t .magnitude) greatestMagnitude)
-    (and-left (leb 1 (t .magnitude) && leb (t .magnitude) greatestMagnitude) (every isVariable (t .variables)) e))
-
 module _ (s : Bytes) (at : ℕ) (g : Good polynomial isField s at) where
   parts : PolynomialParts (drop at s) (g .value) (g .rest)
   parts = polynomial-parts (drop at s) (g .value) (g .rest) (g .reads)
@@ -120,14 +114,14 @@ module _ (s : Bytes) (at : ℕ) (g : Good polynomial isField s at) where
         let p = term-parts (drop at s) (parts .head) (parts .behind) (parts .first) in
         let u = same-rest (sign-not s at inside (λ q. omega arith)) (p .signed) in
         let m = same-value (decimal-zero s at inside z) (ap decimal u ∙ p .sized) in
-        omega (arith, term-some (parts .head) e)
+        omega (arith, term-in-range (parts .head) e .some)
 
     none : (ts : List WrittenTerm) → asWritten (parts .head) ts ≡ g .value → (ts ≡ []) × (isZero (parts .head) ≡ true)
     unfolding asWritten
     none (t ∷ ts) e = absurd (no-term (range-head (parts .head) (t ∷ ts) (ap isField e ∙ g .passes)))
     none [] e =
         ⊎-elim (λ y. (refl, y))
-        (λ n. absurd (no-term (range-head (parts .head) [] (ap isField (sym (ap (λ (b : Bool). cond b [] (parts .head ∷ [])) n) ∙ e) ∙ g .passes))))
+        (λ n. absurd (no-term (range-head (parts .head) [] (ap isField (sym (cond-no (isZero (parts .head)) [] (parts .head ∷ []) n) ∙ e) ∙ g .passes))))
         (split (isZero (parts .head)))
 
     pub field-zero : (out : List ℕ) → FieldAt s at out out (record { terms = 0; end = at + 1 })
@@ -138,7 +132,7 @@ module _ (s : Bytes) (at : ℕ) (g : Good polynomial isField s at) where
         let c = drop-cons s at 0 inside in
         let b : drop (suc at) s ≡ parts .behind = cc in
         let r = each-empty (code " ") term (parts .behind) (g .rest) (parts .others ∙ ap (λ (l : List WrittenTerm). got l (g .rest)) (w .0)) in
-        let v : g .value ≡ [] = sym (parts .whole) ∙ ap (asWritten (parts .head)) (w .0) ∙ ap (λ (b : Bool). cond b [] (parts .head ∷ [])) (w .1) in
+        let v : g .value ≡ [] = sym (parts .whole) ∙ ap (asWritten (parts .head)) (w .0) ∙ cond-yes (isZero (parts .head)) [] (parts .head ∷ []) (w .1) in
         let e : g .rest ≡ drop (at + 1) s = sym r ∙ sym b ∙ ap (λ (k : ℕ). drop k s) (sym (add-one at)) in
         record {
           value = [];
@@ -159,7 +153,7 @@ module _ (s : Bytes) (at : ℕ) (g : Good polynomial isField s at) where
     some : (ts : List WrittenTerm) → asWritten (parts .head) ts ≡ parts .head ∷ ts
     unfolding asWritten
     some (t ∷ ts) = refl
-    some [] = ⊎-elim (λ y. absurd (not-zero y)) (λ n. ap (λ (b : Bool). cond b [] (parts .head ∷ [])) n) (split (isZero (parts .head)))
+    some [] = ⊎-elim (λ y. absurd (not-zero y)) (λ n. cond-no (isZero (parts .head)) [] (parts .head ∷ []) n) (split (isZero (parts .head)))
 
     terms : g .value ≡ parts .head ∷ parts .tail
     terms = sym (parts .whole) ∙ some (parts .tail)

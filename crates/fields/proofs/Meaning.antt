@@ -1,33 +1,21 @@
 -- A field as words hold it means what the paper says, at every k up to 64. Assumes nothing.
 use mathlib.Core.Path.{_≡_}
-use mathlib.Core.Bool.{Bool, true, false, _&&_, cond}
+use mathlib.Core.Bool.{Bool, true, false, cond}
 use mathlib.Core.List.{[], _∷_, map}
-use Prim.Native.Nat.{ℕ, _-_, _*_, _%_, _^_, _≤_, _<_}
+use Prim.Native.Nat.{ℕ, _-_, _*_, _^_, _≤_}
 use native.Mathlib.Omega.{arith}
-use lib.Dec.{leb}
-use borrow.Author.Tests.{leb-true}
 use Rattle.ground.specs.Congruence.{Same}
 use Rattle.ground.specs.Lists.{every}
 use Rattle.ground.proofs.Congruence.{same-refl, same-add, same-mod, _⊳_}
 use Rattle.ground.proofs.Tests.{and-left, and-right}
 use Rattle.limits.specs.Limits.{greatestMagnitude}
-use Rattle.algebra.specs.Polynomial.{keep, sumIf, minusOne, reduce}
+use Rattle.algebra.specs.Polynomial.{sumIf, minusOne, reduce}
 use Rattle.algebra.proofs.Sums.{reduce-sums}
 use Rattle.words.proofs.Wrap.{same-cut, same-negative}
-use Rattle.paper.specs.Statement.{WrittenTerm, Written}
-use Rattle.paper.specs.Meaning.{isVariable, isTerm, inRange, setOf, asTerm, reduced}
+use Rattle.paper.specs.Statement.{Written}
+use Rattle.paper.specs.Meaning.{isTerm, inRange, setOf, asTerm, reduced}
+use Rattle.paper.proofs.Ranges.{term-in-range, keep-same}
 use Rattle.fields.specs.Worded.{signedWord, wordedTerm, worded}
-
-keep-same : {M x y : ℕ} (b : Bool) → Same M x y → Same M (keep b x) (keep b y)
-keep-same true h = h
-keep-same false h = same-refl
-
-magnitude-le : (t : WrittenTerm) → isTerm t ≡ true → t .magnitude ≤ greatestMagnitude
-unfolding isTerm
-magnitude-le t e =
-    leb-true (t .magnitude) greatestMagnitude
-    (and-right (leb 1 (t .magnitude)) (leb (t .magnitude) greatestMagnitude)
-    (and-left (leb 1 (t .magnitude) && leb (t .magnitude) greatestMagnitude) (every isVariable (t .variables)) e))
 
 module _ (k : ℕ) (h : k ≤ 64) where
   signed-same : (negative : Bool) (m : ℕ) → m ≤ greatestMagnitude → Same (2 ^ k) (signedWord negative m) (cond negative (minusOne k * m) m)
@@ -40,7 +28,7 @@ module _ (k : ℕ) (h : k ≤ 64) where
   sums [] e f = same-refl
   sums (t ∷ p) e f =
       same-add
-      (keep-same (f (setOf (t .variables))) (signed-same (t .negative) (t .magnitude) (magnitude-le t (and-left (isTerm t) (every isTerm p) e))))
+      (keep-same (f (setOf (t .variables))) (signed-same (t .negative) (t .magnitude) (term-in-range t (and-left (isTerm t) (every isTerm p) e) .most)))
       (sums p (and-right (isTerm t) (every isTerm p) e) f)
 
   pub worded-reduced : (p : Written) → inRange p ≡ true → reduce k (worded p) ≡ reduced k p

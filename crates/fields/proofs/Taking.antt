@@ -1,29 +1,23 @@
 -- What can be read at a place: a decimal that a word holds, the next of as many items as follow, and the parts of a term.
 -- Assumes nothing.
-use mathlib.Core.Path.{_≡_, refl, sym, ap, ap₂, _∙_}
-use mathlib.Core.Bool.{Bool, true, false, _&&_, cond}
+use mathlib.Core.Path.{_≡_, refl, sym, ap, _∙_}
+use mathlib.Core.Bool.{Bool, true, false, _&&_}
 use mathlib.Core.List.{List, [], _∷_, _++_}
-use Prim.Native.Nat.{ℕ, suc, _+_, _-_, _%_, _^_, _≤_, _<_}
-use Prim.Native.Char.{code}
-use native.Mathlib.Numerals.{add-one}
+use Prim.Native.Nat.{ℕ, _+_, _-_, _%_, _^_, _<_}
 use native.Mathlib.Omega.{arith}
 use lib.Bits.{bitOr, or-comm}
-use lib.Dec.{eqb, ltb, leb}
 use lib.ListN.{length, drop, getD, length-append}
-use lib.Seq.{drop-cons}
-use borrow.Author.Tests.{ltb-true, lt-ltb, leb-true}
+use borrow.Author.Tests.{ltb-true, lt-ltb}
 use Rattle.ground.specs.Lists.{every}
 use Rattle.ground.proofs.Tests.{and-left, and-right}
-use Rattle.limits.specs.Limits.{greatestMagnitude}
 use Rattle.algebra.proofs.Unions.{or-assoc}
 use Rattle.words.specs.Words.{number}
 use Rattle.paper.specs.Text.{Bytes}
 use Rattle.paper.specs.Reader.{Read, got, stuck, Reader, next, each}
-use Rattle.paper.specs.Statement.{WrittenTerm}
-use Rattle.paper.specs.Grammar.{decimal, sign, term}
-use Rattle.paper.specs.Meaning.{isVariable, isTerm, setOf}
-use Rattle.paper.proofs.Reading.{Parted, parted, Takes, each-more, each-stuck, every-append}
-use Rattle.reader.specs.Places.{Got}
+use Rattle.paper.specs.Grammar.{decimal}
+use Rattle.paper.specs.Meaning.{isVariable, setOf}
+use Rattle.paper.proofs.Ranges.{cond-yes, cond-no}
+use Rattle.paper.proofs.Reading.{parted, Takes, each-more, each-stuck, every-append}
 use Rattle.reader.specs.Numbers.{DecimalIs}
 use Rattle.reader.specs.declared.number.Decimal.{Decimal}
 use Rattle.reader.specs.declared.number.Decimal.the-variants.{Value, Large, Stuck}
@@ -118,17 +112,11 @@ set-of-more (u ∷ vs) v =
 -- ---- signs
 pub signed-negative : (b : Bool) (c r : ℕ) → b ≡ true → r ≡ (2 ^ 64 - c) % 2 ^ 64 → r ≡ signedWord b c
 unfolding signedWord
-signed-negative b c r e q = q ∙ sym (ap (λ (x : Bool). cond x ((2 ^ 64 - c) % 2 ^ 64) c) e)
+signed-negative b c r e q = q ∙ sym (cond-yes b ((2 ^ 64 - c) % 2 ^ 64) c e)
 
 pub signed-positive : (b : Bool) (c : ℕ) → b ≡ false → c ≡ signedWord b c
 unfolding signedWord
-signed-positive b c e = sym (ap (λ (x : Bool). cond x ((2 ^ 64 - c) % 2 ^ 64) c) e)
-
-pub behind-yes : (b : Bool) (x y : ℕ) → b ≡ true → x ≡ cond b x y
-behind-yes b x y e = sym (ap (λ (z : Bool). cond z x y) e)
-
-pub behind-no : (b : Bool) (x y : ℕ) → b ≡ false → y ≡ cond b x y
-behind-no b x y e = sym (ap (λ (z : Bool). cond z x y) e)
+signed-positive b c e = sym (cond-no b ((2 ^ 64 - c) % 2 ^ 64) c e)
 
 pub no-variables : number (0 ∷ 0 ∷ 0 ∷ 0 ∷ []) ≡ setOf []
 unfolding number setOf

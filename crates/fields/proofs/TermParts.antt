@@ -1,23 +1,21 @@
 -- A term read at a place: its sign, its magnitude and its variables, each where the one before it ends. Assumes nothing.
-use mathlib.Core.Path.{_≡_, refl, sym, ap, ap₂, _∙_}
-use mathlib.Core.Bool.{Bool, true, false, _&&_, cond}
+use mathlib.Core.Path.{_≡_, refl, ap, _∙_}
+use mathlib.Core.Bool.{Bool, true, false, cond}
 use mathlib.Core.List.{List}
-use Prim.Native.Nat.{ℕ, _+_, _^_, _≤_, _<_}
+use Prim.Native.Nat.{ℕ, _+_, _^_, _<_}
 use native.Mathlib.Omega.{arith}
-use lib.Dec.{eqb, leb}
+use lib.Dec.{eqb}
 use lib.ListN.{length, drop, getD, length-drop}
-use borrow.Author.Tests.{eqb-true, eqb-false, leb-true, lt-ltb}
+use borrow.Author.Tests.{eqb-true, eqb-false, lt-ltb}
 use Rattle.ground.specs.Lists.{every}
-use Rattle.ground.proofs.Tests.{and-left, and-right}
-use Rattle.limits.specs.Limits.{greatestMagnitude}
-use Rattle.algebra.specs.Polynomial.{Term}
 use Rattle.words.specs.Words.{number}
 use Rattle.terms.specs.Terms.{termOf}
 use Rattle.paper.specs.Text.{Bytes}
-use Rattle.paper.specs.Reader.{Read, got}
+use Rattle.paper.specs.Reader.{got}
 use Rattle.paper.specs.Statement.{WrittenTerm}
 use Rattle.paper.specs.Grammar.{decimal, sign, term}
-use Rattle.paper.specs.Meaning.{isVariable, isTerm, setOf}
+use Rattle.paper.specs.Meaning.{isVariable, isTerm}
+use Rattle.paper.proofs.Ranges.{term-in-range}
 use Rattle.paper.proofs.Reading.{TermParts, term-parts, takes-term, after-length}
 use Rattle.reader.specs.Places.{Got}
 use Rattle.reader.specs.Fields.{moreVariables}
@@ -25,8 +23,7 @@ use Rattle.reader.proofs.Polynomials.{sign-here, sign-not, term-got}
 use Rattle.fields.specs.Worded.{signedWord, wordedTerm}
 use Rattle.fields.specs.Fields.{Good, isWord, NamedAt, TermAt}
 use Rattle.fields.specs.declared.Named.{Named}
-use Rattle.fields.specs.declared.TermRead.{TermRead}
-use Rattle.fields.proofs.Taking.{same-value, same-rest}
+use Rattle.fields.proofs.Taking.{same-rest}
 
 -- whether a minus stands at `at`, and the place behind the sign
 abbrev pub minusAt : Bytes → ℕ → Bool
@@ -48,15 +45,8 @@ sign-at s at h = go (minusAt s at) refl
     go false e = record { reads = sign-not s at h (eqb-false (getD s at 0) 45 e); onward = omega arith; inside = omega arith }
 
 magnitude-word : (t : WrittenTerm) → isTerm t ≡ true → isWord (t .magnitude) ≡ true
-unfolding isTerm isWord
-magnitude-word t e =
-    let w = and-left (leb 1 (t .magnitude) && leb (t .magnitude) greatestMagnitude) (every isVariable (t .variables)) e in
-    let l = leb-true (t .magnitude) greatestMagnitude (and-right (leb 1 (t .magnitude)) (leb (t .magnitude) greatestMagnitude) w) in
-    lt-ltb (t .magnitude) (2 ^ 64) (omega arith)
-
-term-variables : (t : WrittenTerm) → isTerm t ≡ true → every isVariable (t .variables) ≡ true
-unfolding isTerm
-term-variables t e = and-right (leb 1 (t .magnitude) && leb (t .magnitude) greatestMagnitude) (every isVariable (t .variables)) e
+unfolding isWord
+magnitude-word t e = let l = term-in-range t e .most in lt-ltb (t .magnitude) (2 ^ 64) (omega arith)
 
 module _ (s : Bytes) (at : ℕ) (g : Good term isTerm s at) where
   parts : TermParts (drop at s) (g .value) (g .rest)
@@ -77,7 +67,7 @@ module _ (s : Bytes) (at : ℕ) (g : Good term isTerm s at) where
       value = g .value .variables;
       rest = g .rest;
       reads = ap moreVariables (same-rest (d .reads) size) ∙ parts .named;
-      passes = term-variables (g .value) (g .passes);
+      passes = term-in-range (g .value) (g .passes) .named;
       inside = d .inside;
     }
 

@@ -1,7 +1,7 @@
 // Fields of a line, read into runs of terms. A scan has found that they can be read and that their numbers are in range.
 ghost use mathlib.Core.Path.{_≡_};
 ghost use mathlib.Core.Bool.{cond};
-ghost use Prim.Native.Nat.{_+_, _*_, _≤_};
+ghost use Prim.Native.Nat.{_+_, _*_, _^_, _≤_, _<_};
 ghost use lib.ListN.{length};
 ghost use Rattle.ground.specs.Lists.{every};
 ghost use Rattle.limits.specs.Limits.{fieldTerms, termWords};
@@ -17,19 +17,19 @@ use terms::Term;
 use words::Set;
 
 // A number and its end.
-pub struct Taken {
+struct Taken {
     pub value: u64,
     pub end: usize,
 }
 
 // Variables and their end.
-pub struct Named {
+struct Named {
     pub set: Set,
     pub end: usize,
 }
 
 // A term and its end.
-pub struct TermRead {
+struct TermRead {
     pub term: Term,
     pub end: usize,
 }
@@ -73,7 +73,7 @@ fn read_variables(s: &[u8], at: usize) -> Named
 
 // The place behind a sign at at, if there is one.
 fn behind_sign(at: usize, negative: bool) -> usize
-    requires { ⌜ at + 1 ≤ 18446744073709551615 ⌝ }
+    requires { ⌜ at + 1 < 2 ^ 64 ⌝ }
     ensures { λ r. ⌜ r ≡ cond negative (at + 1) at ⌝ }
 {
     if negative {

@@ -33,6 +33,9 @@ pub const LEAST_SCRATCH: usize = 6560;
 
 pub const LEAST_SPELLING_SCRATCH: usize = 480;
 
+// ---- the longest text that a host call or a program takes
+pub const HOST_TEXT_BYTES: usize = 65536;
+
 // ---- verdicts
 pub const ACCEPTED: u64 = 0;
 

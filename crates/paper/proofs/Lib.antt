@@ -5,5 +5,9 @@ pub mod Accepted
 pub mod Store
 pub mod Counts
 pub mod Judging
-pub mod Reading
 pub mod Running
+pub mod Numbers
+pub mod Reading
+pub mod Ranges
+pub mod ReadBack
+pub mod SpelledMeaning

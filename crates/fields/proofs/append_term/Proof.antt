@@ -1,30 +1,22 @@
 -- `fields::append_term` meets its contract: the term that is read is written behind the others. No loop.
 -- Assumes nothing.
-use native.Mathlib.Omega.{arith}
 use borrow.Author.Needs.{needs}
 use Rattle.fields.proofs.Gathering.{append-term}
 use Rattle.fields.proofs.append_term.Statement.{statement}
 use Rattle.fields.proofs.append_term.Tie as tie
-use Rattle.fields.proofs.append_term.Reads as reads
-use Rattle.fields.proofs.append_term.Lts as lts
 
--- src/lib.rt:116:9
 read-term-requires : tie.Need-read-term-requires
 read-term-requires c κs = search needs
 
--- src/lib.rt:118:28
 mul-write-term : tie.Need-mul-write-term
 mul-write-term c = search needs
 
--- src/lib.rt:118:5
 write-term-requires : tie.Need-write-term-requires
 write-term-requires c κs = search needs
 
--- src/lib.rt:112:1
 same-length : tie.Need-same-length
 same-length c = search needs
 
--- src/lib.rt:112:1
 returns : tie.Need-returns
 returns c =
     let b = c .before .before .before .before .before .before .before .before in

@@ -5,30 +5,23 @@ use borrow.Author.Needs.{needs}
 use Rattle.fields.proofs.Gathering.{field-inside, field-zero, field-first, field-rest, field-whole}
 use Rattle.fields.proofs.read_field.Statement.{statement}
 use Rattle.fields.proofs.read_field.Tie as tie
-use Rattle.fields.proofs.read_field.Reads as reads
-use Rattle.fields.proofs.read_field.Lts as lts
 
--- src/lib.rt:144:8
 shared-slice-read-if1 : tie.Need-shared-slice-read-if1
 shared-slice-read-if1 c = field-inside (c .before .before .before .pre .0)
 
--- src/lib.rt:147:18
 add-t8 : tie.Need-add-t8
 add-t8 c = search needs
 
--- src/lib.rt:145:9
 returns : tie.Need-returns
 returns c =
     let b = c .before .before .before .before in
     field-zero (b .args .s .now) (b .args .at) (b .pre .0) (c .if1 .taken) (b .args .out .now)
 
--- src/lib.rt:150:9
 append-term-requires : tie.Need-append-term-requires
 append-term-requires c κs =
     let b = c .before .before .before .before .before in
     (field-first (b .args .s .now) (b .args .at) (b .pre .0) (c .before .if1 .left), omega (arith, b .pre .1))
 
--- src/lib.rt:151:5
 read-rest-requires : tie.Need-read-rest-requires
 read-rest-requires c κs =
     let b = c .before .before .before .before .before .before .before .before .before in
@@ -37,11 +30,9 @@ read-rest-requires c κs =
       omega (arith, b .pre .1, t .ensures .within .same),
     )
 
--- src/lib.rt:140:1
 same-length : tie.Need-same-length
 same-length c = search needs
 
--- src/lib.rt:140:1
 returns-2 : tie.Need-returns-2
 returns-2 c =
     let b = c .before .before .before .before .before .before .before .before .before .before .before .before in

@@ -1,21 +1,18 @@
 -- `fields::read_rest` meets its contract. The loop's invariant: the run has the terms from at up to i behind the first, n in all.
 -- The measure is what is left of the line. Assumes nothing.
-use mathlib.Core.Path.{ap}
 use Prim.Native.Nat.{_-_}
 use Prim.Native.Char.{code}
 use native.Mathlib.Omega.{arith}
 use borrow.Author.Needs.{needs}
-use lib.ListN.{length, length-append}
+use lib.ListN.{length}
 use Rattle.paper.specs.Grammar.{term}
 use Rattle.paper.specs.Meaning.{isTerm}
 use Rattle.paper.proofs.Reading.{takes-term, each-stop, each-end}
-use Rattle.reader.proofs.Scans.{Passed, passed-none, passed-more, passed-stop}
+use Rattle.reader.proofs.Scans.{Passed, passed-none, passed-more}
 use Rattle.fields.proofs.Taking.{following, following-length}
 use Rattle.fields.proofs.Gathering.{RunOf, run-start, run-more, rest-at, rest-terms, rest-few}
 use Rattle.fields.proofs.read_rest.Statement.{statement}
 use Rattle.fields.proofs.read_rest.Tie as tie
-use Rattle.fields.proofs.read_rest.Reads as reads
-use Rattle.fields.proofs.read_rest.Lts as lts
 
 abbrev Inv-loop : tie.InvT-loop
 Inv-loop s at out₀ n₀ i₀ out n i = Passed (code " ") term (RunOf out₀ out n) s at i
@@ -23,32 +20,26 @@ Inv-loop s at out₀ n₀ i₀ out n i = Passed (code " ") term (RunOf out₀ ou
 abbrev μ-loop : tie.MeasureT-loop
 μ-loop s at out₀ n₀ i₀ out n i = length s - i
 
--- src/lib.rt:129:5
 loop-holds : tie.Need-loop-holds Inv-loop μ-loop
 loop-holds c =
     let b = c .before .before in
     passed-none (code " ") term (b .args .s .now) (b .args .at) (b .pre .0 .inside) (run-start (b .args .out .now))
 
--- src/lib.rt:130:12
 shared-slice-read-if1 : tie.Need-shared-slice-read-if1 Inv-loop μ-loop
 shared-slice-read-if1 c = search needs
 
--- src/lib.rt:131:13
 same-length : tie.Need-same-length Inv-loop μ-loop
 same-length c = c .before .before .before .loop .inv .holds .within .same
 
--- src/lib.rt:131:13
 returns : tie.Need-returns Inv-loop μ-loop
 returns c =
     let a = c .before .before .before .before .before .before .args in
     let l = c .before .before .before .loop in
     rest-at (a .s .now) (a .at) (a .out .now) (l .out) (l .n) (l .i) (l .inv) (each-stop (code " ") term (a .s .now) (l .i) (omega arith) (c .if1 .taken))
 
--- src/lib.rt:133:28
 add-append-term : tie.Need-add-append-term Inv-loop μ-loop
 add-append-term c = search needs
 
--- src/lib.rt:133:9
 append-term-requires : tie.Need-append-term-requires Inv-loop μ-loop
 append-term-requires c κs =
     let b = c .before .before .before .before .before .before .before in
@@ -57,7 +48,6 @@ append-term-requires c κs =
     let f = following (code " ") term takes-term isTerm (b .args .s .now) (b .args .at) (l .i) (l .inv) (p .value) (p .rest) (p .reads) (rest-terms (p .value) (p .passes)) (omega arith) (c .before .if1 .left) in
     (f .good, omega (arith, following-length f, rest-few (p .value) (p .passes), l .inv .holds .count, l .inv .holds .within .same, b .pre .1))
 
--- src/lib.rt:134:9
 add-n : tie.Need-add-n Inv-loop μ-loop
 add-n c =
     let b = c .before .before .before .before .before .before .before .before .before .before in
@@ -66,11 +56,9 @@ add-n c =
     let f = following (code " ") term takes-term isTerm (b .args .s .now) (b .args .at) (l .i) (l .inv) (p .value) (p .rest) (p .reads) (rest-terms (p .value) (p .passes)) (omega arith) (c .before .before .before .before .if1 .left) in
     record { fits = omega (arith, following-length f, rest-few (p .value) (p .passes), l .inv .holds .count) }
 
--- src/lib.rt:129:5
 loop-less : tie.Need-loop-less Inv-loop μ-loop
 loop-less c = search needs
 
--- src/lib.rt:129:5
 loop-again : tie.Need-loop-again Inv-loop μ-loop
 loop-again c =
     let a = c .before .before .before .before .before .before .before .before .before .before .args in
@@ -79,11 +67,9 @@ loop-again c =
     passed-more (code " ") term (a .s .now) (a .at) (l .i) (l .inv) (omega arith) (c .before .before .before .before .if1 .left) takes-term (t .ensures .taken)
     (λ ts p. run-more (a .out .now) (l .out) (t .last .1 .1 .0) (l .n) (t .result) ts (t .ensures) p)
 
--- src/lib.rt:123:1
 same-length-2 : tie.Need-same-length-2 Inv-loop μ-loop
 same-length-2 c = c .before .loop .inv .holds .within .same
 
--- src/lib.rt:123:1
 returns-2 : tie.Need-returns-2 Inv-loop μ-loop
 returns-2 c =
     let a = c .before .before .before .before .args in

@@ -2,7 +2,6 @@
 -- Assumes nothing.
 use mathlib.Core.Path.{sym, subst}
 use Prim.Native.Nat.{ℕ}
-use native.Mathlib.Omega.{arith}
 use borrow.Author.Needs.{needs}
 use Rattle.paper.specs.Grammar.{decimal}
 use Rattle.reader.specs.Places.{Got}
@@ -10,24 +9,18 @@ use Rattle.fields.specs.Fields.{Good, isWord}
 use Rattle.fields.proofs.TermParts.{term-inside, here-decimal, here-variables, here-term}
 use Rattle.fields.proofs.read_term.Statement.{statement}
 use Rattle.fields.proofs.read_term.Tie as tie
-use Rattle.fields.proofs.read_term.Reads as reads
-use Rattle.fields.proofs.read_term.Lts as lts
 
--- src/lib.rt:99:20
 shared-slice-read-negative : tie.Need-shared-slice-read-negative
 shared-slice-read-negative c = term-inside (c .before .before .pre)
 
--- src/lib.rt:100:29
 behind-sign-requires : tie.Need-behind-sign-requires
 behind-sign-requires c κs = search needs
 
--- src/lib.rt:100:9
 take-decimal-requires : tie.Need-take-decimal-requires
 take-decimal-requires c κs =
     let b = c .before .before .before in
     subst (Good decimal isWord (b .args .s .now)) (sym (c .behind-sign .ensures)) (here-decimal (b .args .s .now) (b .args .at) (b .pre))
 
--- src/lib.rt:101:9
 read-variables-requires : tie.Need-read-variables-requires
 read-variables-requires c κs =
     let b = c .before .before .before .before in
@@ -35,15 +28,12 @@ read-variables-requires c κs =
     here-variables (b .args .s .now) (b .args .at) (b .pre) (d .result .value) (d .result .end)
     (subst (λ (i : ℕ). Got decimal (b .args .s .now) i (d .result .value) (d .result .end)) (c .before .behind-sign .ensures) (d .ensures))
 
--- src/lib.rt:102:9
 signed-requires : tie.Need-signed-requires
 signed-requires c κs = search needs
 
--- src/lib.rt:105:15
 term-of-requires : tie.Need-term-of-requires
 term-of-requires c κs = search needs
 
--- src/lib.rt:95:1
 returns : tie.Need-returns
 returns c =
     let b = c .before .before .before .before .before .before .before .before in

@@ -14,8 +14,6 @@ use Rattle.reader.proofs.Scans.{Passed, passed-none, passed-more, passed-stop}
 use Rattle.fields.proofs.Taking.{following, good-weaken, variable-word, is-variable, same-value, no-variables, one-more}
 use Rattle.fields.proofs.read_variables.Statement.{statement}
 use Rattle.fields.proofs.read_variables.Tie as tie
-use Rattle.fields.proofs.read_variables.Reads as reads
-use Rattle.fields.proofs.read_variables.Lts as lts
 
 abbrev Inv-loop : tie.InvT-loop
 Inv-loop s at set₀ i₀ set i = Passed (code ".") decimal (λ vs. number set ≡ setOf vs) s at i
@@ -23,28 +21,23 @@ Inv-loop s at set₀ i₀ set i = Passed (code ".") decimal (λ vs. number set �
 abbrev μ-loop : tie.MeasureT-loop
 μ-loop s at set₀ i₀ set i = length s - i
 
--- src/lib.rt:61:5
 loop-holds : tie.Need-loop-holds Inv-loop μ-loop
 loop-holds c =
     let b = c .before in
     passed-none (code ".") decimal (b .args .s .now) (b .args .at) (b .pre .inside) no-variables
 
--- src/lib.rt:62:12
 shared-slice-read-if1 : tie.Need-shared-slice-read-if1 Inv-loop μ-loop
 shared-slice-read-if1 c = search needs
 
--- src/lib.rt:63:13
 returns : tie.Need-returns Inv-loop μ-loop
 returns c =
     let a = c .before .before .before .before .before .args in
     let l = c .before .before .before .loop in
     record { value = l .inv .items; taken = passed-stop (code ".") decimal (a .s .now) (a .at) (l .i) (l .inv) (each-stop (code ".") decimal (a .s .now) (l .i) (omega arith) (c .if1 .taken)); set = l .inv .holds }
 
--- src/lib.rt:65:33
 add-take-decimal : tie.Need-add-take-decimal Inv-loop μ-loop
 add-take-decimal c = search needs
 
--- src/lib.rt:65:13
 take-decimal-requires : tie.Need-take-decimal-requires Inv-loop μ-loop
 take-decimal-requires c κs =
     let b = c .before .before .before .before .before in
@@ -52,7 +45,6 @@ take-decimal-requires c κs =
     good-weaken variable-word
     (following (code ".") decimal takes-decimal isVariable (b .args .s .now) (b .args .at) (l .i) (l .inv) (b .pre .value) (b .pre .rest) (b .pre .reads) (b .pre .passes) (omega arith) (c .if1 .left) .good)
 
--- src/lib.rt:66:13
 with-requires : tie.Need-with-requires Inv-loop μ-loop
 with-requires c κs =
     let b = c .before .before .before .before .before .before in
@@ -60,11 +52,9 @@ with-requires c κs =
     let f = following (code ".") decimal takes-decimal isVariable (b .args .s .now) (b .args .at) (l .i) (l .inv) (b .pre .value) (b .pre .rest) (b .pre .reads) (b .pre .passes) (omega arith) (c .before .if1 .left) in
     omega (arith, is-variable (f .good .value) (f .good .passes), same-value (f .good .reads) (c .take-decimal .ensures .reads))
 
--- src/lib.rt:61:5
 loop-less : tie.Need-loop-less Inv-loop μ-loop
 loop-less c = omega (arith, c .before .take-decimal .ensures .onward)
 
--- src/lib.rt:61:5
 loop-again : tie.Need-loop-again Inv-loop μ-loop
 loop-again c =
     let a = c .before .before .before .before .before .before .before .args in
@@ -72,7 +62,6 @@ loop-again c =
     passed-more (code ".") decimal (a .s .now) (a .at) (l .i) (l .inv) (omega arith) (c .before .before .if1 .left) takes-decimal (c .before .take-decimal .ensures)
     (λ vs p. one-more (number (l .set)) (number (c .with .result)) (c .before .take-decimal .result .value) vs (c .with .ensures) p)
 
--- src/lib.rt:55:1
 returns-2 : tie.Need-returns-2 Inv-loop μ-loop
 returns-2 c =
     let a = c .before .before .before .args in

@@ -4,20 +4,15 @@ use borrow.Author.Needs.{needs}
 use Rattle.fields.proofs.Taking.{signed-negative, signed-positive}
 use Rattle.fields.proofs.signed.Statement.{statement}
 use Rattle.fields.proofs.signed.Tie as tie
-use Rattle.fields.proofs.signed.Reads as reads
-use Rattle.fields.proofs.signed.Lts as lts
 
--- src/lib.rt:89:9
 negative-requires : tie.Need-negative-requires
 negative-requires c κs = search needs
 
--- src/lib.rt:89:9
 returns : tie.Need-returns
 returns c =
     let a = c .before .before .args in
     signed-negative (a .negative) (a .c) (c .negative .result) (c .before .if1 .taken) (c .negative .ensures)
 
--- src/lib.rt:85:1
 returns-2 : tie.Need-returns-2
 returns-2 c =
     let a = c .before .args in

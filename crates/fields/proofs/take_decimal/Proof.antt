@@ -8,18 +8,13 @@ use Rattle.reader.proofs.Numbers.{decimal-got}
 use Rattle.fields.proofs.Taking.{good-decimal}
 use Rattle.fields.proofs.take_decimal.Statement.{statement}
 use Rattle.fields.proofs.take_decimal.Tie as tie
-use Rattle.fields.proofs.take_decimal.Reads as reads
-use Rattle.fields.proofs.take_decimal.Lts as lts
 
--- src/lib.rt:47:9
 decimal-at-requires : tie.Need-decimal-at-requires
 decimal-at-requires c κs = search needs
 
--- src/lib.rt:48:24
 enum-known-d : tie.Need-enum-known-d
 enum-known-d c = search needs
 
--- src/lib.rt:49:9
 returns : tie.Need-returns
 returns c =
     let b = c .before .before .before in
@@ -27,7 +22,6 @@ returns c =
     absurd (good-decimal (b .args .s .now) (b .args .at) (d .result) (d .ensures) (b .pre)
     (λ v e q. ⊎-elim (λ p. absurd (let z : ⊥ = omega arith in z)) (λ p. absurd (let z : ⊥ = omega arith in z)) (rw q at (c .match .keys2))))
 
--- src/lib.rt:43:1
 returns-2 : tie.Need-returns-2
 returns-2 c =
     let b = c .before .before .before .before .before in

@@ -1,0 +1,88 @@
+// Reads lines `k<tab>field` from standard input, and writes `verdict<tab>spelling` for each; nothing stands behind the tab where
+// the field is refused. A line of another shape is FORM, and an input above 65,536 bytes has the one answer LONGTEXT.
+ghost use mathlib.Core.Path.{_≡_};
+ghost use Prim.Native.Nat.{_≤_};
+ghost use lib.ListN.{length};
+ghost use Rattle.lpac_spell.specs.Asks.{behindTab, AskedIs};
+use libc::STDIN_FILENO;
+use libc::STDOUT_FILENO;
+use reader::number::Decimal;
+use reader::number::decimal_at;
+
+// A k and the place of the field, or a line of another shape.
+pub enum Asked {
+    Field(u64, usize),
+    Shapeless,
+}
+
+// What k asks for with the tab at at.
+fn behind_tab(line: &[u8], k: u64, at: usize) -> Asked
+    requires { ⌜ at ≤ length (now line) ⌝ }
+    ensures { λ r. ⌜ r ≡ behindTab (now (line .entry)) k at ⌝ }
+{
+    if at == line.len() {
+        return Asked::Shapeless;
+    }
+    if line[at] != b'\t' {
+        return Asked::Shapeless;
+    }
+    Asked::Field(k, at + 1)
+}
+
+// What a line asks for. Every k beyond the greatest has one answer, also where no word holds it.
+fn asks(line: &[u8]) -> Asked
+    ensures { λ r. ⌜ AskedIs (now (line .entry)) r ⌝ }
+{
+    let d = decimal_at(line, 0);
+    match d {
+        Decimal::Value(k, e) => behind_tab(line, k, e),
+        Decimal::Large(e) => behind_tab(line, limits::GREATEST_RING + 1, e),
+        Decimal::Stuck(_) => Asked::Shapeless,
+    }
+}
+
+// Writes an answer.
+fn say(verdict: u64, spelling: &[u8]) {
+    io::print_decimal(STDOUT_FILENO, verdict);
+    io::write_all(STDOUT_FILENO, b"\t");
+    io::write_all(STDOUT_FILENO, spelling);
+    io::write_all(STDOUT_FILENO, b"\n");
+}
+
+// Answers a line.
+fn answer(line: &[u8], scratch: &mut [u64], out: &mut [u8]) {
+    let a = asks(line);
+    let Asked::Field(k, at) = a else {
+        say(limits::FORM, b"");
+        return;
+    };
+    let r = speller::spell(&line[at..], k, scratch, out);
+    let n = r.written;
+    say(r.verdict, &out[..n]);
+}
+
+// Answers the lines of a text, the last of which may lack its byte 10.
+fn answer_lines(text: &[u8], scratch: &mut [u64], out: &mut [u8]) {
+    let mut at = 0;
+    while at < text.len() {
+        let e = reader::find::line_end(text, at);
+        if e == text.len() {
+            say(limits::FORM, b"");
+            return;
+        }
+        answer(&text[at..e], scratch, out);
+        at = e + 1;
+    }
+}
+
+fn main() {
+    let mut text = [0u8; 65537];
+    let n = io::read_full(STDIN_FILENO, &mut text);
+    if limits::HOST_TEXT_BYTES < n {
+        say(limits::LONGTEXT, b"");
+        return;
+    }
+    let mut scratch = [0u64; 480];
+    let mut out = [0u8; 16384];
+    answer_lines(&text[..n], &mut scratch, &mut out);
+}

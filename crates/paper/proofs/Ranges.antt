@@ -1,0 +1,41 @@
+-- What the tests of ranges say of a term, and choices by a test. Assumes nothing.
+use mathlib.Core.Path.{_≡_, ap}
+use mathlib.Core.Bool.{Bool, true, false, _&&_, cond}
+use Prim.Native.Nat.{ℕ, _≤_}
+use lib.Dec.{leb}
+use borrow.Author.Tests.{leb-true}
+use Rattle.ground.specs.Congruence.{Same}
+use Rattle.ground.specs.Lists.{every}
+use Rattle.ground.proofs.Congruence.{same-refl}
+use Rattle.ground.proofs.Tests.{and-left, and-right}
+use Rattle.limits.specs.Limits.{greatestMagnitude}
+use Rattle.algebra.specs.Polynomial.{keep}
+use Rattle.paper.specs.Statement.{WrittenTerm}
+use Rattle.paper.specs.Meaning.{isVariable, isTerm}
+
+pub record TermInRange (t : WrittenTerm) : Type 0 where
+  pub some : 1 ≤ t .magnitude
+  pub most : t .magnitude ≤ greatestMagnitude
+  pub named : every isVariable (t .variables) ≡ true
+
+pub term-in-range : (t : WrittenTerm) → isTerm t ≡ true → TermInRange t
+unfolding isTerm
+term-in-range t e =
+    let s : Bool = leb 1 (t .magnitude) in
+    let m : Bool = leb (t .magnitude) greatestMagnitude in
+    let w = and-left (s && m) (every isVariable (t .variables)) e in
+    record {
+      some = leb-true 1 (t .magnitude) (and-left s m w);
+      most = leb-true (t .magnitude) greatestMagnitude (and-right s m w);
+      named = and-right (s && m) (every isVariable (t .variables)) e;
+    }
+
+pub cond-yes : {A : Type 0} (b : Bool) (x y : A) → b ≡ true → cond b x y ≡ x
+cond-yes {A} b x y e = ap (λ (c : Bool). cond c x y) e
+
+pub cond-no : {A : Type 0} (b : Bool) (x y : A) → b ≡ false → cond b x y ≡ y
+cond-no {A} b x y e = ap (λ (c : Bool). cond c x y) e
+
+pub keep-same : {M c d : ℕ} (b : Bool) → Same M c d → Same M (keep b c) (keep b d)
+keep-same true h = h
+keep-same false h = same-refl

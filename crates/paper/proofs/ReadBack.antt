@@ -1,0 +1,252 @@
+-- A spelling read back: numbers, as many items as follow, terms and polynomials. Assumes nothing.
+use mathlib.Core.Path.{_≡_, refl, sym, ap, ap₂, _∙_}
+use mathlib.Core.Bool.{Bool, true, false, _&&_, not, cond}
+use mathlib.Core.Logic.{⊎-elim}
+use mathlib.Core.List.{List, [], _∷_, _++_, map, append-assoc, append-nil}
+use Prim.Native.Nat.{ℕ, zero, suc, _+_, _-_, _*_, _/_, _%_, _^_, _≤_, _<_}
+use Prim.Native.Char.{code}
+use native.Mathlib.Nat.{not-suc-le-zero}
+use native.Mathlib.Omega.{arith}
+use lib.Dec.{eqb, leb, ltb}
+use lib.ListN.{length, length-append}
+use borrow.Author.Tests.{ltb-true, ltb-false, le-leb, eq-eqb, ne-eqb}
+use Rattle.ground.specs.Lists.{gather}
+use Rattle.ground.proofs.Tests.{split, by-cond, and-left, and-right}
+use Rattle.limits.specs.Limits.{variables}
+use Rattle.algebra.specs.Sets.{members}
+use Rattle.algebra.specs.Polynomial.{Term, Poly}
+use Rattle.algebra.specs.Reduced.{Reduced}
+use Rattle.paper.specs.Text.{Bytes, bytes}
+use Rattle.paper.specs.Reader.{Read, got, Reader, next, end, upTo, each}
+use Rattle.paper.specs.Statement.{WrittenTerm, Written}
+use Rattle.paper.specs.Grammar.{isDigit, digits, decimal, sign, term, isZero, asWritten, polynomial}
+use Rattle.paper.specs.Spelling.{spellDigits, spellNumber, spellCoefficient, spellTerm, spell, wholeField}
+
+-- ---- numbers
+-- no digit comes next
+unfoldable pub noDigit : Bytes → Bool
+noDigit [] = true
+noDigit (b ∷ s) = not (isDigit b)
+
+digit : (n : ℕ) → n < 10 → isDigit (48 + n) ≡ true
+unfolding isDigit
+digit n h = rw (le-leb 48 (48 + n) (omega arith), le-leb (48 + n) 57 (omega arith))
+
+digits-digit : (v n : ℕ) (s : Bytes) → n < 10 → digits v ((48 + n) ∷ s) ≡ digits (v * 10 + n) s
+unfolding digits
+digits-digit v n s h = let e : 48 + n - 48 ≡ n = omega arith in rw (digit n h, e)
+
+digits-stop : (v : ℕ) (s : Bytes) → noDigit s ≡ true → digits v s ≡ got v s
+unfolding digits noDigit
+digits-stop v [] h = refl
+digits-stop v (b ∷ s) h = go (isDigit b) h
+  where
+    go : (t : Bool) → not t ≡ true → cond t (digits (v * 10 + (b - code "0")) s) (got v (b ∷ s)) ≡ got v (b ∷ s)
+    go true e = let z : _≡_ {A = ℕ} 0 1 = cc in absurd (let y : ⊥ = omega arith in y)
+    go false e = refl
+
+-- the last digit goes with what follows
+split-last : (d n : ℕ) (s : Bytes) → ltb n 10 ≡ false → spellDigits (suc d) n ++ s ≡ spellDigits d (n / 10) ++ ((code "0" + n % 10) ∷ s)
+unfolding spellDigits
+split-last d n s t =
+    ap (λ (b : Bool). cond b ((code "0" + n) ∷ []) (spellDigits d (n / 10) ++ ((code "0" + n % 10) ∷ [])) ++ s) t
+    ∙ append-assoc (spellDigits d (n / 10)) ((code "0" + n % 10) ∷ []) s
+
+decimal-digits : (d n : ℕ) (s : Bytes) → n < d → 0 < n → decimal (spellDigits d n ++ s) ≡ digits n s
+unfolding spellDigits decimal
+decimal-digits zero n s h l = absurd (not-suc-le-zero h)
+decimal-digits (suc d) n s h l =
+    ⊎-elim
+    (λ t. let m : n < 10 = ltb-true n 10 t in
+    let e : 48 + n - 48 ≡ n = omega arith in
+    rw (t, ne-eqb (48 + n) 48 (λ q. omega arith), digit n m, e))
+    (λ t. let m : 10 ≤ n = ltb-false n 10 t in
+    let e : n / 10 * 10 + n % 10 ≡ n = omega arith in
+    ap decimal (split-last d n s t)
+    ∙ decimal-digits d (n / 10) ((code "0" + n % 10) ∷ s) (omega arith) (omega arith)
+    ∙ digits-digit (n / 10) (n % 10) s (omega arith)
+    ∙ ap (λ (x : ℕ). digits x s) e)
+    (split (ltb n 10))
+
+zero-back : (s : Bytes) → decimal (spellDigits 1 0 ++ s) ≡ got 0 s
+unfolding spellDigits decimal
+zero-back s = refl
+
+pub number-back : (n : ℕ) (s : Bytes) → noDigit s ≡ true → decimal (spellNumber n ++ s) ≡ got n s
+unfolding spellNumber
+number-back zero s h = zero-back s
+number-back (suc n) s h = decimal-digits (suc (suc n)) (suc n) s (omega arith) (omega arith) ∙ digits-stop (suc n) s h
+
+-- no number begins with a sign
+unsigned : (d n : ℕ) (s : Bytes) → n < d → sign (spellDigits d n ++ s) ≡ got false (spellDigits d n ++ s)
+unfolding spellDigits sign
+unsigned zero n s h = absurd (not-suc-le-zero h)
+unsigned (suc d) n s h =
+    ⊎-elim
+    (λ t. rw (t, ne-eqb (48 + n) 45 (λ q. omega arith)))
+    (λ t. let m : 10 ≤ n = ltb-false n 10 t in
+    let e = split-last d n s t in
+    ap sign e ∙ unsigned d (n / 10) ((code "0" + n % 10) ∷ s) (omega arith) ∙ ap (got false) (sym e))
+    (split (ltb n 10))
+
+-- ---- as many items as follow
+-- the byte c does not come next
+unfoldable pub without : ℕ → Bytes → Bool
+without c [] = true
+without c (b ∷ s) = not (eqb b c)
+
+-- items that are read back before what `ok` allows, each behind c, are read back in a row
+module _ {A : Type 0} (c : ℕ) (item : Reader A) (spelled : A → Bytes) (ok : Bytes → Bool)
+    (back : (x : A) (s : Bytes) → ok s ≡ true → item (spelled x ++ s) ≡ got x s) (tail : (s : Bytes) → ok (c ∷ s) ≡ true) where
+  upTo-none : (m : ℕ) (s : Bytes) → without c s ≡ true → upTo m c item s ≡ got [] s
+  unfolding upTo without
+  upTo-none zero s h = refl
+  upTo-none (suc m) [] h = refl
+  upTo-none (suc m) (b ∷ s) h = go (eqb b c) h
+    where
+      go : (t : Bool) → not t ≡ true → cond t (next (item s) (λ x r. next (upTo m c item r) (λ xs r′. got (x ∷ xs) r′))) (got [] (b ∷ s)) ≡ got [] (b ∷ s)
+      go true e = let z : _≡_ {A = ℕ} 0 1 = cc in absurd (let y : ⊥ = omega arith in y)
+      go false e = refl
+
+  ahead : (xs : List A) (s : Bytes) → ok s ≡ true → ok (gather (λ x. c ∷ spelled x) xs ++ s) ≡ true
+  unfolding gather
+  ahead [] s h = h
+  ahead (x ∷ xs) s h = tail ((spelled x ++ gather (λ x. c ∷ spelled x) xs) ++ s)
+
+  upTo-first : (m : ℕ) (x : A) (xs : List A) (s : Bytes) {r t : Bytes} → item s ≡ got x r → upTo m c item r ≡ got xs t → upTo (suc m) c item (c ∷ s) ≡ got (x ∷ xs) t
+  unfolding upTo
+  upTo-first m x xs s e f = rw (eq-eqb c c refl, e, f)
+
+  upTo-back : (m : ℕ) (xs : List A) (s : Bytes) → length xs ≤ m → ok s ≡ true → without c s ≡ true
+      → upTo m c item (gather (λ x. c ∷ spelled x) xs ++ s) ≡ got xs s
+  unfolding gather
+  upTo-back m [] s h o w = upTo-none m s w
+  upTo-back zero (x ∷ xs) s h o w = absurd (not-suc-le-zero h)
+  upTo-back (suc m) (x ∷ xs) s h o w =
+      upTo-first m x xs ((spelled x ++ gather (λ x. c ∷ spelled x) xs) ++ s)
+      (ap item (append-assoc (spelled x) (gather (λ x. c ∷ spelled x) xs) s) ∙ back x (gather (λ x. c ∷ spelled x) xs ++ s) (ahead xs s o)) (upTo-back m xs s (omega arith) o w)
+
+  gather-length : (xs : List A) → length xs ≤ length (gather (λ x. c ∷ spelled x) xs)
+  unfolding gather
+  gather-length [] = omega arith
+  gather-length (x ∷ xs) = omega (arith, gather-length xs, length-append (spelled x) (gather (λ x. c ∷ spelled x) xs))
+
+  pub each-back : (xs : List A) (s : Bytes) → ok s ≡ true → without c s ≡ true → each c item (gather (λ x. c ∷ spelled x) xs ++ s) ≡ got xs s
+  each-back xs s o w =
+      upTo-back (length (gather (λ x. c ∷ spelled x) xs ++ s)) xs s (omega (arith, gather-length xs, length-append (gather (λ x. c ∷ spelled x) xs) s)) o w
+
+-- ---- terms
+unfoldable pub spelledTerm : WrittenTerm → Bytes
+spelledTerm t =
+    cond (t .negative) (code "-" ∷ spellNumber (t .magnitude)) (spellNumber (t .magnitude)) ++ gather (λ v. code "." ∷ spellNumber v) (t .variables)
+
+-- neither a digit nor a dot comes next
+unfoldable pub apart : Bytes → Bool
+apart s = noDigit s && without (code ".") s
+
+dots : List ℕ → Bytes
+dots vs = gather (λ v. code "." ∷ spellNumber v) vs
+
+dots-apart : (vs : List ℕ) (s : Bytes) → noDigit s ≡ true → noDigit (dots vs ++ s) ≡ true
+unfolding dots gather noDigit isDigit
+dots-apart [] s h = h
+dots-apart (v ∷ vs) s h = refl
+
+sign-back : (b : Bool) (m : ℕ) (s : Bytes) → sign (cond b (code "-" ∷ spellNumber m) (spellNumber m) ++ s) ≡ got b (spellNumber m ++ s)
+unfolding sign spellNumber
+sign-back true m s = refl
+sign-back false m s = unsigned (suc m) m s (omega arith)
+
+pub term-back : (t : WrittenTerm) (s : Bytes) → apart s ≡ true → term (spelledTerm t ++ s) ≡ got t s
+unfolding term spelledTerm apart dots noDigit isDigit
+term-back t s h =
+    let n : noDigit s ≡ true = and-left (noDigit s) (without (code ".") s) h in
+    ap term (append-assoc (cond (t .negative) (code "-" ∷ spellNumber (t .magnitude)) (spellNumber (t .magnitude))) (dots (t .variables)) s)
+    ∙ ap (λ (r : Read Bool). next r signed) (sign-back (t .negative) (t .magnitude) (dots (t .variables) ++ s))
+    ∙ ap (λ (r : Read ℕ). next r (sized (t .negative))) (number-back (t .magnitude) (dots (t .variables) ++ s) (dots-apart (t .variables) s n))
+    ∙ ap (λ (r : Read (List ℕ)). next r (named (t .negative) (t .magnitude)))
+    (each-back (code ".") decimal spellNumber noDigit number-back (λ r. refl) (t .variables) s n (and-right (noDigit s) (without (code ".") s) h))
+  where
+    named : Bool → ℕ → List ℕ → Reader WrittenTerm
+    named b m vs = λ r. got (record { negative = b; magnitude = m; variables = vs }) r
+
+    sized : Bool → ℕ → Reader WrittenTerm
+    sized b m = λ r. next (each (code ".") decimal r) (named b m)
+
+    signed : Bool → Reader WrittenTerm
+    signed b = λ r. next (decimal r) (sized b)
+
+-- ---- polynomials
+spaces-apart : (ts : List WrittenTerm) → apart (gather (λ u. code " " ∷ spelledTerm u) ts) ≡ true
+unfolding gather apart noDigit without isDigit
+spaces-apart [] = refl
+spaces-apart (t ∷ ts) = refl
+
+pub terms-back : (t : WrittenTerm) (ts : List WrittenTerm) → polynomial (spelledTerm t ++ gather (λ u. code " " ∷ spelledTerm u) ts) ≡ got (asWritten t ts) []
+unfolding polynomial apart noDigit without isDigit
+terms-back t ts =
+    ap (λ (r : Read WrittenTerm). next r more) (term-back t (gather (λ u. code " " ∷ spelledTerm u) ts) (spaces-apart ts))
+    ∙ ap (λ (r : Read (List WrittenTerm)). next r (λ us s. got (asWritten t us) s))
+    (ap (each (code " ") term) (sym (append-nil (gather (λ u. code " " ∷ spelledTerm u) ts)))
+    ∙ each-back (code " ") term spelledTerm apart term-back (λ r. refl) ts [] refl refl)
+  where
+    more : WrittenTerm → Reader Written
+    more u = λ s. next (each (code " ") term s) (λ us s. got (asWritten u us) s)
+
+pub whole-end : (s : Bytes) (p : Written) → polynomial s ≡ got p [] → wholeField s ≡ got p []
+unfolding wholeField end
+whole-end s p e = ap (λ (r : Read Written). next r (λ p s. next (end s) (λ _ r. got p r))) e
+
+-- ---- the spelling of a polynomial
+module _ (k : ℕ) where
+  -- a term as its spelling has it
+  unfoldable pub writtenTerm : Term → WrittenTerm
+  writtenTerm t = record {
+    negative = not (leb (t .coef) (2 ^ (k - 1)));
+    magnitude = cond (leb (t .coef) (2 ^ (k - 1))) (t .coef) (2 ^ k - t .coef);
+    variables = members variables 0 (t .set);
+  }
+
+  term-spelled : (t : Term) → spellTerm k t ≡ spelledTerm (writtenTerm t)
+  unfolding spellTerm spellCoefficient spelledTerm writtenTerm
+  term-spelled t = go (leb (t .coef) (2 ^ (k - 1)))
+    where
+      vs : Bytes
+      vs = gather (λ v. code "." ∷ spellNumber v) (members variables 0 (t .set))
+
+      go : (b : Bool) → cond b (spellNumber (t .coef)) (code "-" ∷ spellNumber (2 ^ k - t .coef)) ++ vs
+          ≡ cond (not b) (code "-" ∷ spellNumber (cond b (t .coef) (2 ^ k - t .coef))) (spellNumber (cond b (t .coef) (2 ^ k - t .coef))) ++ vs
+      go true = refl
+      go false = refl
+
+  rest-spelled : (p : Poly) → gather (λ u. code " " ∷ spellTerm k u) p ≡ gather (λ u. code " " ∷ spelledTerm u) (map writtenTerm p)
+  unfolding gather
+  rest-spelled [] = refl
+  rest-spelled (t ∷ p) = ap₂ (λ (x y : Bytes). (code " " ∷ x) ++ y) (term-spelled t) (rest-spelled p)
+
+  magnitude-some : (t : Term) → 0 < t .coef → t .coef < 2 ^ k → 0 < writtenTerm t .magnitude
+  unfolding writtenTerm
+  magnitude-some t h l = by-cond (λ (x : ℕ). 0 < x) (leb (t .coef) (2 ^ (k - 1))) (λ _. h) (λ _. omega arith)
+
+  some-terms : (t : WrittenTerm) (ts : List WrittenTerm) → 0 < t .magnitude → asWritten t ts ≡ t ∷ ts
+  unfolding asWritten isZero
+  some-terms t [] h = rw (ne-eqb (t .magnitude) 0 (λ e. omega arith)) (go (not (t .negative)))
+    where
+      go : (b : Bool) → cond ((b && false) && elim (t .variables) [ [] ↦ true | v ∷ vs ↦ false ]) [] (t ∷ []) ≡ t ∷ []
+      go true = refl
+      go false = refl
+  some-terms t (u ∷ ts) h = refl
+
+  zero-spelled : polynomial (spell k []) ≡ got [] []
+  unfolding spell bytes polynomial term sign decimal upTo isZero asWritten
+  zero-spelled = refl
+
+  some-spelled : (t : Term) (p : Poly) → polynomial (spell k (t ∷ p)) ≡ got (asWritten (writtenTerm t) (map writtenTerm p)) []
+  unfolding spell
+  some-spelled t p = ap polynomial (ap₂ (λ (x y : Bytes). x ++ y) (term-spelled t) (rest-spelled p)) ∙ terms-back (writtenTerm t) (map writtenTerm p)
+
+  pub spell-back : (b : ℕ) (p : Poly) → Reduced k b p → wholeField (spell k p) ≡ got (map writtenTerm p) []
+  spell-back b [] r = whole-end (spell k []) [] zero-spelled
+  spell-back b (t ∷ p) r =
+      whole-end (spell k (t ∷ p)) (map writtenTerm (t ∷ p))
+      (some-spelled t p ∙ ap (λ (w : Written). got w []) (some-terms (writtenTerm t) (map writtenTerm p) (magnitude-some t (r .1) (r .2))))

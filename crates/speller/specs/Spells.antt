@@ -1,0 +1,58 @@
+-- What the spelling writer leaves, by the paper's definitions.
+use mathlib.Core.Path.{_≡_}
+use mathlib.Core.Bool.{true, cond}
+use mathlib.Core.List.{List, []}
+use Prim.Native.Nat.{ℕ, _≤_}
+use lib.Dec.{ltb}
+use lib.ListN.{length}
+use Rattle.limits.specs.Limits.{fieldTerms}
+use Rattle.limits.specs.Verdicts.{ACCEPTED, FULL}
+use Rattle.terms.specs.Terms.{decode}
+use Rattle.paper.specs.Text.{Bytes}
+use Rattle.paper.specs.Reader.{got}
+use Rattle.paper.specs.Statement.{Written}
+use Rattle.paper.specs.Grammar.{polynomial}
+use Rattle.paper.specs.Meaning.{isRing, reduced}
+use Rattle.paper.specs.Spelling.{Spelled, refuse, spellRead, wholeField, spellField, outputAfter, scratchAfter}
+use Rattle.fields.specs.Fields.{isField}
+use Rattle.speller.specs.declared.Spelled.{Spelled as Answer}
+
+-- the answer r with the output afterwards is what x says
+pub record Gives (x : Spelled) (out out′ : Bytes) (r : Answer) : Type 0 where
+  pub verdict : r .verdict ≡ x .verdict
+  pub written : r .written ≡ length (x .spelling)
+  pub output : out′ ≡ outputAfter x out
+
+-- the whole contract
+pub record Spells (field : Bytes) (k : ℕ) (scratch : List ℕ) (out : Bytes) (r : Answer) (scratch′ : List ℕ) (out′ : Bytes) : Type 0 where
+  pub gives : Gives (spellField field k (length scratch) (length out)) out out′ r
+  pub cleared : scratch′ ≡ scratchAfter (spellField field k (length scratch) (length out) .verdict) scratch
+
+-- two results that it allows are one
+abbrev pub Decided : Type 0
+Decided = (field : Bytes) (k : ℕ) (scratch : List ℕ) (out : Bytes) (r q : Answer) (scratch′ scratch″ : List ℕ) (out′ out″ : Bytes)
+    → Spells field k scratch out r scratch′ out′ → Spells field k scratch out q scratch″ out″ → (r ≡ q) × (scratch′ ≡ scratch″) × (out′ ≡ out″)
+
+-- ---- its steps
+-- a spelling that takes no more than the room, or FULL
+unfoldable pub fitted : Bytes → ℕ → Spelled
+fitted w room = cond (ltb room (length w)) (refuse FULL) (record { verdict = ACCEPTED; spelling = w })
+
+-- a whole field in range, and a k in range
+pub record Accepts (field : Bytes) (k : ℕ) : Type 0 where
+  pub value : Written
+  pub reads : polynomial field ≡ got value []
+  pub passes : isField value ≡ true
+  pub ring : isRing k ≡ true
+
+-- v is the verdict before any room is looked at
+pub record Judged (field : Bytes) (k v : ℕ) : Type 0 where
+  pub refused : (v ≡ ACCEPTED → ⊥) → (room : ℕ) → spellRead k room (wholeField field) ≡ refuse v
+  pub accepted : v ≡ ACCEPTED → Accepts field k
+
+-- the words hold the reduced form of the field, m terms
+pub record Holds (field : Bytes) (k : ℕ) (words : List ℕ) (m : ℕ) : Type 0 where
+  pub value : Written
+  pub reads : polynomial field ≡ got value []
+  pub terms : decode m words ≡ reduced k value
+  pub few : m ≤ fieldTerms
