@@ -159,15 +159,15 @@ swapped true false c = refl
 swapped false true c = refl
 swapped false false c = refl
 
-ranged-ring : (k : ℕ) → within 1 greatestRing k ≡ numbersInRange (ring k)
+pub ranged-ring : (k : ℕ) → within 1 greatestRing k ≡ numbersInRange (ring k)
 unfolding numbersInRange isRing newIndex namedIndices fields every
 ranged-ring k = and-true (within 1 greatestRing k) ∙ and-true (within 1 greatestRing k && true) ∙ and-true ((within 1 greatestRing k && true) && true)
 
-ranged-input : (i : ℕ) (p : Written) → (isIndex i && inRange p) ≡ numbersInRange (input i p)
+pub ranged-input : (i : ℕ) (p : Written) → (isIndex i && inRange p) ≡ numbersInRange (input i p)
 unfolding numbersInRange newIndex namedIndices fields every
 ranged-input i p = ap₂ _&&_ (and-true (isIndex i)) (and-true (inRange p))
 
-ranged-goal : (p : Written) → inRange p ≡ numbersInRange (goal p)
+pub ranged-goal : (p : Written) → inRange p ≡ numbersInRange (goal p)
 unfolding numbersInRange newIndex namedIndices fields every
 ranged-goal p = and-true (inRange p)
 
@@ -184,22 +184,22 @@ ranged-pairs (q ∷ qs) =
     go true false false y = refl
     go false b x y = refl
 
-ranged-lin : (i : ℕ) (p : Written) (qs : List Pair) → (isIndex i && (inRange p && every pairRanged qs)) ≡ numbersInRange (lin i p qs)
+pub ranged-lin : (i : ℕ) (p : Written) (qs : List Pair) → (isIndex i && (inRange p && every pairRanged qs)) ≡ numbersInRange (lin i p qs)
 unfolding numbersInRange newIndex namedIndices fields every
 ranged-lin i p qs =
     ap (λ (b : Bool). isIndex i && (inRange p && b)) (ranged-pairs qs)
     ∙ crossed (isIndex i) (inRange p) (every isIndex (map (λ q. q .index) qs)) (every inRange (map (λ q. q .factor) qs))
 
-ranged-del : (i : ℕ) → isIndex i ≡ numbersInRange (del i)
+pub ranged-del : (i : ℕ) → isIndex i ≡ numbersInRange (del i)
 unfolding numbersInRange newIndex namedIndices fields every
 ranged-del i = and-true (isIndex i) ∙ and-true (isIndex i && true)
 
-ranged-ext : (i v : ℕ) (p : Written) → ((isIndex i && isVariable v) && inRange p) ≡ numbersInRange (ext i v p)
+pub ranged-ext : (i v : ℕ) (p : Written) → ((isIndex i && isVariable v) && inRange p) ≡ numbersInRange (ext i v p)
 unfolding numbersInRange newIndex namedIndices fields every
 ranged-ext i v p = swapped (isIndex i) (isVariable v) (inRange p)
 
 -- of a statement with one polynomial
-few-one : (p : Written) → fewTerms p ≡ not (any tooManyTerms (p ∷ []))
+pub few-one : (p : Written) → fewTerms p ≡ not (any tooManyTerms (p ∷ []))
 unfolding fewTerms any
 few-one p = and-true (fewTerms p) ∙ not-or (tooManyTerms p) false
 
@@ -208,7 +208,7 @@ unfolding every any pairFew fewTerms
 few-pairs [] = refl
 few-pairs (q ∷ qs) = ap (λ (b : Bool). fewTerms (q .factor) && b) (few-pairs qs) ∙ not-or (tooManyTerms (q .factor)) (any tooManyTerms (map (λ q. q .factor) qs))
 
-few-lin : (p : Written) (qs : List Pair) → (fewTerms p && every pairFew qs) ≡ not (any tooManyTerms (p ∷ map (λ q. q .factor) qs))
+pub few-lin : (p : Written) (qs : List Pair) → (fewTerms p && every pairFew qs) ≡ not (any tooManyTerms (p ∷ map (λ q. q .factor) qs))
 unfolding any fewTerms
 few-lin p qs = ap (λ (b : Bool). fewTerms p && b) (few-pairs qs) ∙ not-or (tooManyTerms p) (any tooManyTerms (map (λ q. q .factor) qs))
 

@@ -1,0 +1,175 @@
+-- What the checks of an ext line and of a lin line say, and the runs that they compare. Assumes nothing.
+use mathlib.Core.Path.{_≡_, refl, sym, ap, ap₂, subst, _∙_}
+use mathlib.Core.Bool.{Bool, true, false, not, cond}
+use mathlib.Core.List.{List, [], map}
+use Prim.Native.Nat.{ℕ, _-_, _*_, _^_, _≤_, _<_}
+use native.Mathlib.Omega.{arith}
+use lib.Bits.{bitOr}
+use lib.ListN.{length, take, drop}
+use borrow.Author.Tests.{lt-ltb, le-ltb}
+use borrow.Rule.Slice.PartMut.{putMid}
+use Rattle.ground.specs.Lists.{every}
+use Rattle.ground.specs.Parts.{part, Within}
+use Rattle.ground.proofs.Parts.{drop-more, part-rest}
+use Rattle.limits.specs.Limits.{greatestRing, fieldTerms, lineProducts, termWords}
+use Rattle.limits.specs.Verdicts.{MISSING, SEEN, PRODUCTS, MISMATCH, NOTBIT}
+use Rattle.algebra.specs.Sets.{has}
+use Rattle.algebra.specs.Polynomial.{Poly, vars, equal, reduce, product, extension}
+use Rattle.algebra.proofs.Unions.{or-assoc}
+use Rattle.words.specs.Words.{number}
+use Rattle.terms.specs.Terms.{decode, Leaves}
+use Rattle.terms.proofs.Decode.{decode-length, decode-part, decode-above}
+use Rattle.terms.proofs.Rounding.{reduce-rounded}
+use Rattle.paper.specs.Statement.{Pair}
+use Rattle.paper.specs.State.{Store, stored, find}
+use Rattle.paper.specs.Rules.{combination}
+use Rattle.regions.specs.Regions.{statedAt, factorAt, goalAt, StatedIs}
+use Rattle.regions.proofs.Reducing.{lent-run, lent-within}
+use Rattle.pairs.specs.declared.Sum.{Sum}
+use Rattle.pairs.specs.Pairs.{productsOf, Summed}
+use Rattle.steps.specs.declared.check.Checked.{Checked}
+use Rattle.steps.specs.Parts.{sums, extends}
+use Rattle.steps.specs.Checks.{Extends, Sums}
+
+-- ---- runs
+-- one from a on, and one before a
+pub behind-equal : (n m a : ℕ) (s : List ℕ) → m * termWords ≤ a → equal (decode n (part a (length s - a) s)) (decode m (take a s)) ≡ equal (decode n (drop a s)) (decode m s)
+behind-equal n m a s h = ap₂ (λ (w : List ℕ) (p : Poly). equal (decode n w) p) (part-rest a s) (decode-part m 0 a s h)
+
+-- the m terms before the stated region were reduced, and y came back
+module _ (k n m left : ℕ) (s y : List ℕ) (long : statedAt ≤ length s) (few : m ≤ lineProducts)
+    (c : Leaves m (reduce k (decode m (part 0 (statedAt - 0) s))) (part 0 (statedAt - 0) s) y left) where
+  pub front-within : Within 0 statedAt s (putMid 0 (statedAt - 0) s y)
+  front-within = lent-within 0 statedAt m left _ s y (omega arith) long (omega arith) c
+
+  pub front-reduced : equal (decode n (drop statedAt (putMid 0 (statedAt - 0) s y))) (decode left (putMid 0 (statedAt - 0) s y)) ≡ equal (decode n (drop statedAt s)) (reduce k (decode m s))
+  front-reduced = ap₂ equal
+      (decode-above n statedAt 0 statedAt s (putMid 0 (statedAt - 0) s y) front-within (omega arith))
+      (lent-run 0 statedAt m left _ s y (omega arith) long (omega arith) c ∙ ap (reduce k) (decode-part m 0 (statedAt - 0) s (omega arith)))
+
+-- ---- ext
+module _ (k v n : ℕ) (seen : List ℕ) (s : List ℕ) where
+  abbrev pub Extending : List ℕ → Checked → Type 0
+  Extending r c = Extends k v (decode n (drop statedAt s)) (number seen) s r c
+
+  abbrev clash : Bool
+  clash = has (bitOr (vars (decode n (drop statedAt s))) (number seen)) v
+
+  abbrev bit : Bool
+  bit = equal (product k (decode n (drop statedAt s)) (decode n (drop statedAt s))) (decode n (drop statedAt s))
+
+  -- the verdict, by n
+  by-count : (a b : Bool) → extends a (n * n) b 0 ≡ extends a (length (decode n (drop statedAt s)) * length (decode n (drop statedAt s))) b 0
+  by-count a b = ap (λ (m : ℕ). extends a (m * m) b 0) (sym (decode-length n (drop statedAt s)))
+
+  stopped : (r : List ℕ) (why : ℕ) → 0 < why → why ≡ extends clash (n * n) bit 0 → drop goalAt r ≡ drop goalAt s → length r ≡ length s
+      → {c : Checked} → c ≡ record { verdict = why; terms = 0; seen = seen } → Extending r c
+  stopped r why l e g h q = subst (Extending r) (sym q) (record {
+    verdict = e ∙ by-count clash bit;
+    run = λ z. absurd (let y : ⊥ = omega arith in y);
+    few = λ z. absurd (let y : ⊥ = omega arith in y);
+    seen = λ z. absurd (let y : ⊥ = omega arith in y);
+    goal = g;
+    same = h;
+  })
+
+  module _ (all : List ℕ) (t : Bool) (u : number all ≡ bitOr (vars (decode n (drop statedAt s))) (number seen)) (e : t ≡ has (number all) v) where
+    clashing : t ≡ clash
+    clashing = e ∙ ap (λ (m : ℕ). has m v) u
+
+    pub extends-seen : t ≡ true → {c : Checked} → c ≡ record { verdict = SEEN; terms = 0; seen = seen } → Extending s c
+    extends-seen h = stopped s SEEN (omega arith) (ap (λ (b : Bool). extends b (n * n) bit 0) (sym h ∙ clashing)) refl refl
+
+    module _ (f : t ≡ false) where
+      unseen : (m : ℕ) (b : Bool) → extends false m b 0 ≡ extends clash m b 0
+      unseen m b = ap (λ (x : Bool). extends x m b 0) (sym f ∙ clashing)
+
+      pub extends-many : lineProducts < n * n → {c : Checked} → c ≡ record { verdict = PRODUCTS; terms = 0; seen = seen } → Extending s c
+      extends-many h = stopped s PRODUCTS (omega arith)
+          (sym (ap (λ (x : Bool). cond x PRODUCTS (cond (not bit) NOTBIT 0)) (lt-ltb lineProducts (n * n) h)) ∙ unseen (n * n) bit) refl refl
+
+      module _ (few : n * n ≤ lineProducts) {b : Bool} (x : List ℕ) (w : Within 0 statedAt s x) (d : b ≡ bit) where
+        counted : (y : Bool) → extends false 0 y 0 ≡ extends clash (n * n) y 0
+        counted y = sym (ap (λ (x : Bool). cond x PRODUCTS (cond (not y) NOTBIT 0)) (le-ltb lineProducts (n * n) few)) ∙ unseen (n * n) y
+
+        pub extends-no-bit : b ≡ false → {c : Checked} → c ≡ record { verdict = NOTBIT; terms = 0; seen = seen } → Extending x c
+        extends-no-bit h = stopped x NOTBIT (omega arith) (ap (λ (y : Bool). extends false 0 y 0) (sym h ∙ d) ∙ counted bit)
+            (drop-more statedAt goalAt s x (omega arith) (w .after)) (w .same)
+
+        pub extends-all : b ≡ true → (r more : List ℕ) (m : ℕ) → StatedIs (extension k v (decode n (drop statedAt x))) x r m → number more ≡ bitOr (2 ^ v) (number all)
+            → Extending r (record { verdict = 0; terms = m; seen = more })
+        extends-all h r more m i q = record {
+          verdict = ap (λ (y : Bool). extends false 0 y 0) (sym h ∙ d) ∙ counted bit ∙ by-count clash bit;
+          run = λ z. i .run ∙ ap (extension k v) (decode-above n statedAt 0 statedAt s x w (omega arith));
+          few = λ z. i .few;
+          seen = λ z. q ∙ ap (bitOr (2 ^ v)) u ∙ sym (or-assoc (2 ^ v) (vars (decode n (drop statedAt s))) (number seen));
+          goal = drop-more factorAt goalAt x r (omega arith) (i .within .after) ∙ drop-more statedAt goalAt s x (omega arith) (w .after);
+          same = i .within .same ∙ w .same;
+        }
+
+-- ---- lin
+module _ (k : ℕ) (store : Store) (qs : List Pair) (n : ℕ) (seen : List ℕ) (s : List ℕ) where
+  abbrev pub Adding : List ℕ → Checked → Type 0
+  Adding r c = Sums k store qs n (number seen) s r c
+
+  abbrev present : Bool
+  present = every (stored store) (map (λ q. q .index) qs)
+
+  abbrev sum : Bool
+  sum = equal (decode n (drop statedAt s)) (reduce k (combination k (find store) qs))
+
+  halted : (r : List ℕ) (why : ℕ) → 0 < why → why ≡ sums present (productsOf k (find store) qs) sum 0 → decode n (drop statedAt r) ≡ decode n (drop statedAt s)
+      → drop goalAt r ≡ drop goalAt s → length r ≡ length s
+      → {c : Checked} → c ≡ record { verdict = why; terms = 0; seen = seen } → Adding r c
+  halted r why l e d g h q = subst (Adding r) (sym q) (record {
+    verdict = e;
+    count = λ z. absurd (let y : ⊥ = omega arith in y);
+    most = λ z. absurd (let y : ⊥ = omega arith in y);
+    run = d;
+    seen = λ z. absurd (let y : ⊥ = omega arith in y);
+    goal = g;
+    same = h;
+  })
+
+  module _ {t : Bool} (e : t ≡ present) where
+    pub sums-missing : t ≡ false → {c : Checked} → c ≡ record { verdict = MISSING; terms = 0; seen = seen } → Adding s c
+    sums-missing h = halted s MISSING (omega arith) (ap (λ (b : Bool). sums b (productsOf k (find store) qs) sum 0) (sym h ∙ e)) refl refl refl
+
+    module _ (h : t ≡ true) (few : n ≤ fieldTerms) (x : List ℕ) (u : Sum) (a : Summed k (find store) qs (number seen) s x u) where
+      named : (m : ℕ) (b : Bool) → sums true m b 0 ≡ sums present m b 0
+      named m b = ap (λ (y : Bool). sums y m b 0) (sym h ∙ e)
+
+      pub sums-many : u .over ≡ true → {c : Checked} → c ≡ record { verdict = PRODUCTS; terms = 0; seen = seen } → Adding x c
+      sums-many o = halted x PRODUCTS (omega arith)
+          (sym (ap (λ (y : Bool). cond y PRODUCTS (cond (not sum) MISMATCH 0)) (lt-ltb lineProducts (productsOf k (find store) qs) (a .over o))) ∙ named (productsOf k (find store) qs) sum)
+          (a .stated n (omega arith)) (a .goal) (a .same)
+
+      module _ (o : u .over ≡ false) (kk : k ≤ greatestRing) (r : List ℕ) {b : Bool} (w : Within 0 statedAt x r) (d : b ≡ equal (decode n (drop statedAt x)) (reduce k (decode (u .terms) x))) where
+        counted-sum : (y : Bool) → sums true 0 y 0 ≡ sums present (productsOf k (find store) qs) y 0
+        counted-sum y =
+            let c = a .count o in
+            let m = a .most o in
+            sym (ap (λ (z : Bool). cond z PRODUCTS (cond (not y) MISMATCH 0)) (le-ltb lineProducts (productsOf k (find store) qs) (omega arith))) ∙ named (productsOf k (find store) qs) y
+
+        same-sum : b ≡ sum
+        same-sum = d ∙ ap₂ equal (a .stated n (omega arith)) (ap (reduce k) (a .run o) ∙ reduce-rounded k kk [] (combination k (find store) qs))
+
+        kept : decode n (drop statedAt r) ≡ decode n (drop statedAt s)
+        kept = decode-above n statedAt 0 statedAt x r w (omega arith) ∙ a .stated n (omega arith)
+
+        kept-goal : drop goalAt r ≡ drop goalAt s
+        kept-goal = drop-more statedAt goalAt x r (omega arith) (w .after) ∙ a .goal
+
+        pub sums-differ : b ≡ false → {c : Checked} → c ≡ record { verdict = MISMATCH; terms = 0; seen = seen } → Adding r c
+        sums-differ z = halted r MISMATCH (omega arith) (ap (λ (y : Bool). sums true 0 y 0) (sym z ∙ same-sum) ∙ counted-sum sum) kept kept-goal (w .same ∙ a .same)
+
+        pub sums-all : b ≡ true → Adding r (record { verdict = 0; terms = u .terms; seen = u .seen })
+        sums-all z = record {
+          verdict = ap (λ (y : Bool). sums true 0 y 0) (sym z ∙ same-sum) ∙ counted-sum sum;
+          count = λ _. a .count o;
+          most = λ _. a .most o;
+          run = kept;
+          seen = λ _. a .seen o;
+          goal = kept-goal;
+          same = w .same ∙ a .same;
+        }

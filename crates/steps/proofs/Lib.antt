@@ -1,0 +1,9 @@
+pub mod Said
+pub mod Rows
+pub mod After
+pub mod Stepping
+pub mod Keeping
+pub mod Admitting
+pub mod Inputs
+pub mod Checking
+pub mod Deriving

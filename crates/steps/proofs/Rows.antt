@@ -1,0 +1,118 @@
+-- The verdict of the first row that refuses a statement of each kind. Assumes nothing.
+use mathlib.Core.Path.{_≡_, refl, ap, ap₂, _∙_}
+use mathlib.Core.Bool.{Bool, true, false, not, cond, or-false, and-true}
+use mathlib.Core.List.{List, map}
+use Prim.Native.Nat.{ℕ, _*_, _<_}
+use native.Mathlib.Nat.{zero-add, add-zero}
+use native.Mathlib.Omega.{arith}
+use lib.Bits.{bitOr}
+use lib.Dec.{eqb, ltb}
+use lib.ListN.{length}
+use Rattle.ground.specs.Lists.{every, any, total}
+use Rattle.limits.specs.Limits.{lineProducts}
+use Rattle.limits.specs.Verdicts.{ACCEPTED, ORDER, TAKEN, MISSING, SEEN, PRODUCTS, MISMATCH, NOTBIT, FULL}
+use Rattle.algebra.specs.Sets.{has}
+use Rattle.algebra.specs.Polynomial.{vars, equal, reduce, product, extension}
+use Rattle.paper.specs.Verdict.{first}
+use Rattle.paper.specs.Statement.{Written, Pair, ring, input, goal, lin, del, ext, newIndex, namedIndices, fields}
+use Rattle.paper.specs.Meaning.{numbersInRange, tooManyTerms, reduced}
+use Rattle.paper.specs.State.{opening, inputs, steps, State, stored, find}
+use Rattle.paper.specs.Rules.{Case, ringOf, rules, place, entries, productCount, combination, clashes, differs, noBit, overfull}
+use Rattle.paper.proofs.Steps.{caseOf}
+use Rattle.steps.specs.Parts.{admits, sums, extends, fits, only}
+
+-- of a statement that neither NUMBER nor TERMS refuses
+first-said : (c : Case) → numbersInRange (c .statement) ≡ true → any tooManyTerms (fields (c .statement)) ≡ false
+    → first rules c ≡ cond (not (eqb (place (c .statement)) (c .state .phase))) ORDER
+    (cond (any (stored (c .state .store)) (newIndex (c .statement))) TAKEN
+    (cond (not (every (stored (c .state .store)) (namedIndices (c .statement)))) MISSING
+    (cond (clashes (ringOf c) (c .state .seen) (c .statement)) SEEN
+    (cond (ltb lineProducts (productCount (ringOf c) (find (c .state .store)) (c .statement))) PRODUCTS
+    (cond (differs (ringOf c) (find (c .state .store)) (c .statement)) MISMATCH
+    (cond (noBit (ringOf c) (c .statement)) NOTBIT
+    (cond (overfull (c .capacity) (c .state .store) (entries (ringOf c) (c .statement))) FULL ACCEPTED)))))))
+unfolding first rules
+first-said c r t = rw (r, t)
+
+module _ (capacity : ℕ) (s : State) where
+  abbrev k : ℕ
+  k = ringOf (caseOf capacity s (ring 0))
+
+  pub first-ring : (j : ℕ) → numbersInRange (ring j) ≡ true → any tooManyTerms (fields (ring j)) ≡ false
+      → first rules (caseOf capacity s (ring j)) ≡ cond (not (eqb opening (s .phase))) ORDER ACCEPTED
+  unfolding place newIndex namedIndices any every clashes productCount differs noBit entries overfull
+  first-ring j r t = first-said (caseOf capacity s (ring j)) r t
+
+  pub first-goal : (p : Written) → numbersInRange (goal p) ≡ true → any tooManyTerms (fields (goal p)) ≡ false
+      → first rules (caseOf capacity s (goal p)) ≡ cond (not (eqb inputs (s .phase))) ORDER ACCEPTED
+  unfolding place newIndex namedIndices any every clashes productCount differs noBit entries overfull
+  first-goal p r t = first-said (caseOf capacity s (goal p)) r t
+
+  pub first-del : (i : ℕ) → numbersInRange (del i) ≡ true → any tooManyTerms (fields (del i)) ≡ false
+      → first rules (caseOf capacity s (del i)) ≡ cond (not (eqb steps (s .phase))) ORDER (cond (not (stored (s .store) i)) MISSING ACCEPTED)
+  unfolding place newIndex namedIndices any every clashes productCount differs noBit entries overfull
+  first-del i r t =
+      first-said (caseOf capacity s (del i)) r t
+      ∙ ap (λ (b : Bool). cond (not (eqb steps (s .phase))) ORDER (cond (not b) MISSING ACCEPTED)) (and-true (stored (s .store) i))
+
+  pub first-input : (i : ℕ) (p : Written) → numbersInRange (input i p) ≡ true → any tooManyTerms (fields (input i p)) ≡ false
+      → first rules (caseOf capacity s (input i p)) ≡ admits inputs (s .phase) (stored (s .store) i) (fits capacity (s .store) (only i (reduced k p)))
+  unfolding place newIndex namedIndices any every clashes productCount differs noBit entries
+  first-input i p r t =
+      first-said (caseOf capacity s (input i p)) r t
+      ∙ ap (λ (b : Bool). admits inputs (s .phase) b (fits capacity (s .store) (only i (reduced k p)))) (or-false (stored (s .store) i))
+
+  pub first-ext : (i v : ℕ) (p : Written) → numbersInRange (ext i v p) ≡ true → any tooManyTerms (fields (ext i v p)) ≡ false
+      → first rules (caseOf capacity s (ext i v p))
+      ≡ admits steps (s .phase) (stored (s .store) i)
+      (extends (has (bitOr (vars (reduced k p)) (s .seen)) v) (length (reduced k p) * length (reduced k p))
+      (equal (product k (reduced k p) (reduced k p)) (reduced k p))
+      (fits capacity (s .store) (only i (extension k v (reduced k p)))))
+  unfolding place newIndex namedIndices any every clashes productCount differs noBit entries
+  first-ext i v p r t =
+      first-said (caseOf capacity s (ext i v p)) r t
+      ∙ ap₂ (λ (b : Bool) (n : ℕ). admits steps (s .phase) b
+      (extends (has (bitOr (vars (reduced k p)) (s .seen)) v) n
+      (equal (product k (reduced k p) (reduced k p)) (reduced k p))
+      (fits capacity (s .store) (only i (extension k v (reduced k p))))))
+      (or-false (stored (s .store) i)) (zero-add (length (reduced k p) * length (reduced k p)))
+
+  pub first-lin : (i : ℕ) (p : Written) (qs : List Pair) → numbersInRange (lin i p qs) ≡ true → any tooManyTerms (fields (lin i p qs)) ≡ false
+      → first rules (caseOf capacity s (lin i p qs))
+      ≡ admits steps (s .phase) (stored (s .store) i)
+      (sums (every (stored (s .store)) (map (λ q. q .index) qs))
+      (total (λ q. length (reduced k (q .factor)) * length (find (s .store) (q .index))) qs)
+      (equal (reduced k p) (reduce k (combination k (find (s .store)) qs)))
+      (fits capacity (s .store) (only i (reduced k p))))
+  unfolding place newIndex namedIndices any clashes productCount differs noBit entries
+  first-lin i p qs r t =
+      first-said (caseOf capacity s (lin i p qs)) r t
+      ∙ ap₂ (λ (b : Bool) (n : ℕ). admits steps (s .phase) b
+      (sums (every (stored (s .store)) (map (λ q. q .index) qs)) n
+      (equal (reduced k p) (reduce k (combination k (find (s .store)) qs)))
+      (fits capacity (s .store) (only i (reduced k p)))))
+      (or-false (stored (s .store) i)) (add-zero (total (λ q. length (reduced k (q .factor)) * length (find (s .store) (q .index))) qs))
+
+-- ---- tests in a row
+pub two-stop : (a b : Bool) (v w x : ℕ) → (cond a v (cond b w 0) ≡ 0 → ⊥) → cond a v (cond b w x) ≡ cond a v (cond b w 0)
+two-stop true b v w x h = refl
+two-stop false true v w x h = refl
+two-stop false false v w x h = absurd (h refl)
+
+pub two-pass : (a b : Bool) (v w : ℕ) → 0 < v → 0 < w → cond a v (cond b w 0) ≡ 0 → (a ≡ false) × (b ≡ false)
+two-pass true b v w l m e = absurd (let z : ⊥ = omega arith in z)
+two-pass false true v w l m e = absurd (let z : ⊥ = omega arith in z)
+two-pass false false v w l m e = (refl, refl)
+
+pub three-stop : (a b c : Bool) (u v w x : ℕ) → (cond a u (cond b v (cond c w 0)) ≡ 0 → ⊥)
+    → cond a u (cond b v (cond c w x)) ≡ cond a u (cond b v (cond c w 0))
+three-stop true b c u v w x h = refl
+three-stop false b c u v w x h = two-stop b c v w x h
+
+pub three-pass : (a b c : Bool) (u v w : ℕ) → 0 < u → 0 < v → 0 < w → cond a u (cond b v (cond c w 0)) ≡ 0
+    → (a ≡ false) × (b ≡ false) × (c ≡ false)
+three-pass true b c u v w l m n e = absurd (let z : ⊥ = omega arith in z)
+three-pass false b c u v w l m n e = let p = two-pass b c v w m n e in (refl, p .0, p .1)
+
+pub three-through : (a b c : Bool) (u v w x : ℕ) → 0 < u → 0 < v → 0 < w → cond a u (cond b v (cond c w 0)) ≡ 0 → cond a u (cond b v (cond c w x)) ≡ x
+three-through a b c u v w x l m n e = let p = three-pass a b c u v w l m n e in rw (p .0, p .1, p .2)

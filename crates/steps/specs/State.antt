@@ -1,0 +1,41 @@
+-- What the checker's state stands for, and what holds of it between two lines.
+use mathlib.Core.Path.{_≡_}
+use mathlib.Core.List.{List}
+use Prim.Native.Nat.{ℕ, _*_, _≤_, _<_}
+use lib.ListN.{length, drop}
+use Rattle.limits.specs.Limits.{fieldTerms, lineProducts, greatestRing, mostPoolTerms, termWords, leastScratch}
+use Rattle.words.specs.Words.{number}
+use Rattle.terms.specs.Terms.{decode}
+use Rattle.paper.specs.State as paper
+use Rattle.paper.specs.State.{modulo, start}
+use Rattle.paper.proofs.Store.{Distinct}
+use Rattle.table.specs.Table.{storeOf, Fitting}
+use Rattle.regions.specs.Regions.{goalAt}
+use Rattle.steps.specs.declared.state.State.{State}
+
+abbrev pub stateOf : State → List ℕ → List ℕ → paper.State
+stateOf s pool scratch = record {
+  phase = s .phase;
+  ring = modulo (s .ring);
+  store = storeOf (s .table) pool;
+  seen = number (s .seen);
+  goal = decode (s .«goal_terms») (drop goalAt scratch);
+  reached = s .reached;
+  products = s .products;
+}
+
+-- with a pool that holds so many terms, after so many lines
+pub record Ready (capacity lines : ℕ) (s : State) (pool scratch : List ℕ) : Type 0 where
+  pub fitting : Fitting (s .table) pool capacity
+  pub room : leastScratch ≤ length scratch
+  pub aim : s .«goal_terms» ≤ fieldTerms
+  pub ringed : 0 < s .phase → (1 ≤ s .ring) × (s .ring ≤ greatestRing)
+  pub distinct : Distinct (storeOf (s .table) pool)
+  pub few : s .products ≤ lineProducts * lines
+
+-- before the first line
+pub record Fresh (s : State) : Type 0 where
+  pub state : (pool scratch : List ℕ) → stateOf s pool scratch ≡ start
+  pub lines : s .lines ≡ 0
+  pub ready : (capacity : ℕ) (pool scratch : List ℕ) → capacity * termWords ≤ length pool → capacity ≤ mostPoolTerms → leastScratch ≤ length scratch
+      → Ready capacity 0 s pool scratch

@@ -1,0 +1,48 @@
+-- What a step leaves: the verdict of the first row that refuses, and the state after the statement, or all as it was.
+use mathlib.Core.Path.{_≡_}
+use mathlib.Core.Bool.{true, false}
+use mathlib.Core.List.{List, []}
+use Prim.Native.Nat.{ℕ, _+_, _≤_}
+use lib.ListN.{length}
+use Rattle.ground.specs.Lists.{any}
+use Rattle.limits.specs.Limits.{textBytes}
+use Rattle.paper.specs.Verdict.{first}
+use Rattle.paper.specs.Text.{Bytes}
+use Rattle.paper.specs.Reader.{got}
+use Rattle.paper.specs.Statement.{Statement, fields}
+use Rattle.paper.specs.Grammar.{statement}
+use Rattle.paper.specs.Meaning.{numbersInRange, tooManyTerms}
+use Rattle.paper.specs.Rules.{rules, after}
+use Rattle.reader.specs.declared.line.Kind.{Kind}
+use Rattle.reader.specs.Lines.{kindOf}
+use Rattle.steps.specs.declared.state.State.{State}
+use Rattle.steps.specs.declared.state.Step.{Step}
+use Rattle.steps.specs.State.{stateOf, Ready}
+
+-- the line, its byte 10 taken off, is a statement of this kind that neither NUMBER nor TERMS refuses
+pub record Says (line : Bytes) (k : Kind) : Type 0 where
+  pub value : Statement
+  pub reads : statement (record { content = line; ended = true }) ≡ got value []
+  pub kind : kindOf value ≡ k
+  pub ranged : numbersInRange value ≡ true
+  pub short : any tooManyTerms (fields value) ≡ false
+
+-- what a step asks of its room
+pub record Room (capacity : ℕ) (s : State) (pool scratch : List ℕ) : Type 0 where
+  pub ready : Ready capacity (s .lines) s pool scratch
+  pub early : s .lines ≤ textBytes
+
+pub record Stepped (capacity : ℕ) (st : Statement) (s : State) (pool scratch : List ℕ) (r : Step) (pool′ scratch′ : List ℕ) : Type 0 where
+  pub verdict : first rules (record { capacity = capacity; state = stateOf s pool scratch; statement = st }) ≡ r .verdict
+  pub next : r .verdict ≡ 0 → stateOf (r .state) pool′ scratch′ ≡ after (stateOf s pool scratch) st
+  pub ready : r .verdict ≡ 0 → Ready capacity (s .lines + 1) (r .state) pool′ scratch′
+  pub lines : r .state .lines ≡ s .lines
+  pub back : (r .verdict ≡ 0 → ⊥) → r .state ≡ s
+  pub untouched : (r .verdict ≡ 0 → ⊥) → pool′ ≡ pool
+  pub pool-length : length pool′ ≡ length pool
+  pub scratch-length : length scratch′ ≡ length scratch
+
+-- the step of the statement that the line says
+abbrev pub Does : ℕ → (line : Bytes) → State → List ℕ → List ℕ → Step → List ℕ → List ℕ → Type 0
+Does capacity line s pool scratch r pool′ scratch′ =
+    (st : Statement) → statement (record { content = line; ended = true }) ≡ got st [] → Stepped capacity st s pool scratch r pool′ scratch′

@@ -1,0 +1,210 @@
+// The six steps.
+ghost use mathlib.Core.List.{List};
+ghost use Prim.Native.Nat.{ℕ};
+ghost use Rattle.reader.specs.declared.line.Kind.the-variants.{Ring, Input, Goal, Lin, Del, Ext};
+ghost use Rattle.steps.specs.Steps.{Says, Room, Does};
+use super::check::add_up;
+use super::check::admit;
+use super::check::extend;
+use super::check::reaches;
+use super::check::seen_with;
+use super::number::small_at;
+use super::state::Gain;
+use super::state::INPUTS;
+use super::state::OPENING;
+use super::state::STEPS;
+use super::state::State;
+use super::state::Step;
+use table::Found;
+use table::find;
+
+impl State {
+    // ring k
+    pub fn step_ring(mut self, line: &[u8]) -> Step
+        requires { ⌜ Says (now line) Ring ⌝ }
+        ensures { λ r. ⌜ ((capacity : ℕ) (pool scratch : List ℕ) → Room capacity self pool scratch → Does capacity (now (line .entry)) self pool scratch r pool scratch) ⌝ }
+    {
+        if self.phase != OPENING {
+            return self.refuse(limits::ORDER);
+        }
+        let k = small_at(line, 5);
+        self.ring = k.value;
+        self.phase = INPUTS;
+        Step {
+            verdict: limits::ACCEPTED,
+            state: self,
+        }
+    }
+
+    // del index
+    pub fn step_del(mut self, line: &[u8], pool: &mut [u64]) -> Step
+        requires { ⌜ Says (now line) Del × ((capacity : ℕ) × (scratch : List ℕ) × Room capacity self (now pool) scratch) ⌝ }
+        ensures { λ r. ⌜ ((capacity : ℕ) (scratch : List ℕ) → Room capacity self (now (pool .entry)) scratch → Does capacity (now (line .entry)) self (now (pool .entry)) scratch r (now (pool .exit)) scratch) ⌝ }
+    {
+        if self.phase != STEPS {
+            return self.refuse(limits::ORDER);
+        }
+        let index = small_at(line, 4);
+        let found = find(&self.table.indices, self.table.stored, index.value);
+        let Found::At(j) = found else {
+            return self.refuse(limits::MISSING);
+        };
+        let t = self.table;
+        let left = t.forget(pool, j);
+        self.table = left;
+        Step {
+            verdict: limits::ACCEPTED,
+            state: self,
+        }
+    }
+
+    // in index polynomial
+    pub fn step_input(
+        self,
+        line: &[u8],
+        pool: &mut [u64],
+        scratch: &mut [u64],
+        capacity: usize,
+    ) -> Step
+        requires { ⌜ Says (now line) Input × Room capacity self (now pool) (now scratch) ⌝ }
+        ensures { λ r. ⌜ Does capacity (now (line .entry)) self (now (pool .entry)) (now (scratch .entry)) r (now (pool .exit)) (now (scratch .exit)) ⌝ }
+    {
+        let index = small_at(line, 3);
+        let v = admit(
+            self.phase,
+            INPUTS,
+            &self.table.indices,
+            self.table.stored,
+            index.value,
+        );
+        if v != limits::ACCEPTED {
+            return self.refuse(v);
+        }
+        let f = regions::read_reduced(line, index.end + 1, scratch, regions::STATED, self.ring);
+        let n = f.terms;
+        let gain = Gain {
+            seen: seen_with(scratch, regions::STATED, n, self.seen),
+            reached: false,
+            products: self.products,
+        };
+        self.store(index.value, n, gain, pool, scratch, capacity)
+    }
+
+    // goal polynomial
+    pub fn step_goal(mut self, line: &[u8], pool: &[u64], scratch: &mut [u64]) -> Step
+        requires { ⌜ Says (now line) Goal × ((capacity : ℕ) × Room capacity self (now pool) (now scratch)) ⌝ }
+        ensures { λ r. ⌜
+            ((capacity : ℕ) → Room capacity self (now (pool .entry)) (now (scratch .entry))
+            → Does capacity (now (line .entry)) self (now (pool .entry)) (now (scratch .entry)) r (now (pool .entry)) (now (scratch .exit)))
+            ⌝ }
+    {
+        if self.phase != INPUTS {
+            return self.refuse(limits::ORDER);
+        }
+        let f = regions::read_reduced(line, 5, scratch, regions::GOAL, self.ring);
+        let n = f.terms;
+        self.reached = regions::is_stored(
+            &self.table.starts,
+            &self.table.counts,
+            self.table.stored,
+            pool,
+            &scratch[regions::GOAL..],
+            n,
+        );
+        let seen = seen_with(scratch, regions::GOAL, n, self.seen);
+        self.seen = seen;
+        self.goal_terms = n;
+        self.phase = STEPS;
+        Step {
+            verdict: limits::ACCEPTED,
+            state: self,
+        }
+    }
+
+    // lin index polynomial pairs
+    pub fn step_lin(
+        self,
+        line: &[u8],
+        pool: &mut [u64],
+        scratch: &mut [u64],
+        capacity: usize,
+    ) -> Step
+        requires { ⌜ Says (now line) Lin × Room capacity self (now pool) (now scratch) ⌝ }
+        ensures { λ r. ⌜ Does capacity (now (line .entry)) self (now (pool .entry)) (now (scratch .entry)) r (now (pool .exit)) (now (scratch .exit)) ⌝ }
+    {
+        let index = small_at(line, 4);
+        let v = admit(
+            self.phase,
+            STEPS,
+            &self.table.indices,
+            self.table.stored,
+            index.value,
+        );
+        if v != limits::ACCEPTED {
+            return self.refuse(v);
+        }
+        let f = regions::read_reduced(line, index.end + 1, scratch, regions::STATED, self.ring);
+        let n = f.terms;
+        let sum = add_up(
+            &self.table.indices,
+            &self.table.starts,
+            &self.table.counts,
+            self.table.stored,
+            line,
+            f.end,
+            pool,
+            scratch,
+            n,
+            self.ring,
+            self.seen,
+        );
+        if sum.verdict != limits::ACCEPTED {
+            return self.refuse(sum.verdict);
+        }
+        let factors = sum.seen;
+        let gain = Gain {
+            seen: seen_with(scratch, regions::STATED, n, factors),
+            reached: reaches(self.reached, scratch, n, self.goal_terms),
+            products: self.products + sum.terms as u64,
+        };
+        self.store(index.value, n, gain, pool, scratch, capacity)
+    }
+
+    // ext index variable polynomial
+    pub fn step_ext(
+        self,
+        line: &[u8],
+        pool: &mut [u64],
+        scratch: &mut [u64],
+        capacity: usize,
+    ) -> Step
+        requires { ⌜ Says (now line) Ext × Room capacity self (now pool) (now scratch) ⌝ }
+        ensures { λ r. ⌜ Does capacity (now (line .entry)) self (now (pool .entry)) (now (scratch .entry)) r (now (pool .exit)) (now (scratch .exit)) ⌝ }
+    {
+        let index = small_at(line, 4);
+        let v = admit(
+            self.phase,
+            STEPS,
+            &self.table.indices,
+            self.table.stored,
+            index.value,
+        );
+        if v != limits::ACCEPTED {
+            return self.refuse(v);
+        }
+        let x = small_at(line, index.end + 1);
+        let f = regions::read_reduced(line, x.end + 1, scratch, regions::STATED, self.ring);
+        let n = f.terms;
+        let made = extend(scratch, n, x.value as usize, self.ring, self.seen);
+        if made.verdict != limits::ACCEPTED {
+            return self.refuse(made.verdict);
+        }
+        let seen = made.seen;
+        let gain = Gain {
+            seen,
+            reached: reaches(self.reached, scratch, made.terms, self.goal_terms),
+            products: self.products + (n * n) as u64,
+        };
+        self.store(index.value, made.terms, gain, pool, scratch, capacity)
+    }
+}
