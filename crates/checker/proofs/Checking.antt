@@ -1,0 +1,139 @@
+-- A checked text: no run ends with SHORT or LONGTEXT, so all that was read leaves its rooms zero. Assumes nothing.
+use mathlib.Core.Path.{_≡_, refl, sym, ap, _∙_}
+use mathlib.Core.Bool.{Bool, true, false, _||_, not, cond}
+use mathlib.Core.List.{List, [], _∷_}
+use Prim.Native.Nat.{ℕ, suc, _/_, _*_, _≤_, _<_, min}
+use native.Mathlib.Omega.{arith}
+use lib.Dec.{eqb, leb, ltb}
+use lib.ListN.{length, replicate}
+use borrow.Author.Tests.{lt-ltb, le-ltb}
+use Rattle.ground.specs.Lists.{every}
+use Rattle.ground.proofs.Tests.{and-left, and-right, by-cond}
+use Rattle.limits.specs.Limits.{textBytes, lineBytes, leastPool, leastScratch, mostPoolTerms, termWords}
+use Rattle.limits.specs.Verdicts.{SHORT, LONGTEXT}
+use Rattle.paper.specs.Verdict.{Row, first}
+use Rattle.paper.specs.Text.{Bytes, Line, lines}
+use Rattle.paper.specs.Reader.{Read, got, stuck}
+use Rattle.paper.specs.Statement.{Statement}
+use Rattle.paper.specs.Grammar.{statement}
+use Rattle.paper.specs.State as paper
+use Rattle.paper.specs.State.{steps, start}
+use Rattle.paper.specs.Rules.{rules}
+use Rattle.paper.specs.Answer as answers
+use Rattle.paper.specs.Answer.{Outcome, stands, refused, judge, judgeRead, judgeLine, report, ending, run, capacityOf, unread, answer, roomAfter}
+use Rattle.paper.proofs.Steps.{caseOf}
+use Rattle.checker.specs.declared.answer.Answer.{Answer}
+use Rattle.checker.specs.Checked.{answerOf, Ran, Checked}
+
+-- ---- the verdicts of texts that were not read
+abbrev early : ℕ → Bool
+early v = eqb v SHORT || eqb v LONGTEXT
+
+abbrev late : ℕ → Bool
+late v = not (early v)
+
+abbrev Later : Outcome → Type 0
+Later (stands s) = Unit {0}
+Later (refused v i) = late v ≡ true
+
+first-late : {A : Type 0} (rs : List (Row A)) (x : A) → every (λ r. late (r .verdict)) rs ≡ true → late (first rs x) ≡ true
+unfolding first every
+first-late [] x h = refl
+first-late (r ∷ rs) x h =
+    by-cond (λ (v : ℕ). late v ≡ true) (r .refuses x)
+    (λ _. and-left (late (r .verdict)) (every (λ r. late (r .verdict)) rs) h)
+    (λ _. first-late rs x (and-right (late (r .verdict)) (every (λ r. late (r .verdict)) rs) h))
+
+module _ (capacity : ℕ) where
+  read-late : (s : paper.State) (r : Read Statement) → Later (judgeRead capacity s r)
+  unfolding judgeRead judge rules every
+  read-late s (got st r) =
+      by-cond Later (eqb (first rules (caseOf capacity s st)) 0) (λ _. tt) (λ _. first-late rules (caseOf capacity s st) refl)
+  read-late s (stuck r) = refl
+
+  line-late : (s : paper.State) (l : Line) → Later (judgeLine capacity s l)
+  unfolding judgeLine
+  line-late s l = by-cond Later (ltb lineBytes (length (l .content))) (λ _. refl) (λ _. read-late s (statement l))
+
+  ending-late : (s : paper.State) (n : ℕ) → late (ending s n .verdict) ≡ true
+  unfolding ending report
+  ending-late s n = by-cond Late (eqb (s .phase) steps) (λ _. by-cond Late (s .reached) (λ _. refl) (λ _. refl)) (λ _. refl)
+    where
+      Late : answers.Answer → Type 0
+      Late a = late (a .verdict) ≡ true
+
+  run-late : (s : paper.State) (n : ℕ) (ls : List Line) → late (run capacity s n ls .verdict) ≡ true
+  unfolding run report
+  run-late s n [] = ending-late s n
+  run-late s n (l ∷ ls) = go (judgeLine capacity s l) (line-late s l) (λ s′. run-late s′ (suc n) ls)
+    where
+      go : (o : Outcome) → Later o → ((s′ : paper.State) → late (run capacity s′ (suc n) ls .verdict) ≡ true)
+          → late (answers.proceed o (λ s′. run capacity s′ (suc n) ls) (λ v i. report s v (suc n) i) .verdict) ≡ true
+      go (stands s′) h rest = rest s′
+      go (refused v i) h rest = h
+
+-- ---- rooms
+room-kept : (v : ℕ) (room : List ℕ) → early v ≡ true → room ≡ roomAfter v room
+unfolding roomAfter
+room-kept v room e = rw e refl
+
+not-early : (b : Bool) → not b ≡ true → b ≡ false
+not-early false e = refl
+not-early true e = absurd (let z : _≡_ {A = ℕ} 0 1 = cc in omega arith)
+
+room-zeroed : (v : ℕ) (room : List ℕ) → late v ≡ true → replicate (length room) 0 ≡ roomAfter v room
+unfolding roomAfter
+room-zeroed v room e = rw (not-early (early v) e) refl
+
+-- ---- the terms that a pool holds
+pub capacity-most : (n : ℕ) → 65536 < n / 5 → 65536 ≡ capacityOf n
+unfolding capacityOf
+capacity-most n h = omega arith
+
+pub capacity-all : (n : ℕ) → n / 5 ≤ 65536 → n / 5 ≡ capacityOf n
+unfolding capacityOf
+capacity-all n h = omega arith
+
+pub capacity-words : {r : ℕ} (n : ℕ) → r ≡ capacityOf n → r * termWords ≤ n
+unfolding capacityOf
+capacity-words n e = omega arith
+
+pub capacity-fits : {r : ℕ} (n : ℕ) → r ≡ capacityOf n → r ≤ mostPoolTerms
+unfolding capacityOf
+capacity-fits n e = omega arith
+
+-- ---- the whole
+whole : (text : Bytes) (pool scratch : ℕ) → leastPool ≤ pool → leastScratch ≤ scratch → length text ≤ textBytes
+    → answer text pool scratch ≡ run (capacityOf pool) start 0 (lines text)
+unfolding answer
+whole text pool scratch g h l = rw (le-ltb pool leastPool g, le-ltb scratch leastScratch h, le-ltb textBytes (length text) l) refl
+
+module _ {text : Bytes} {pool scratch : List ℕ} {a : Answer} where
+  unread-kept : (v : ℕ) → early v ≡ true → answer text (length pool) (length scratch) ≡ unread v → answerOf a ≡ unread v → Checked text pool scratch a pool scratch
+  unfolding unread
+  unread-kept v h e q =
+      let w : early (a .verdict) ≡ true = ap (λ (x : answers.Answer). early (x .verdict)) q ∙ h in
+      record { answer = q ∙ sym e; pool-after = room-kept (a .verdict) pool w; scratch-after = room-kept (a .verdict) scratch w }
+
+  pub checked-pool : length pool < leastPool → answerOf a ≡ unread 1 → Checked text pool scratch a pool scratch
+  unfolding answer
+  checked-pool h = unread-kept 1 refl (rw (lt-ltb (length pool) leastPool h) refl)
+
+  pub checked-scratch : leastPool ≤ length pool → length scratch < leastScratch → answerOf a ≡ unread 1 → Checked text pool scratch a pool scratch
+  unfolding answer
+  checked-scratch g h = unread-kept 1 refl (rw (le-ltb (length pool) leastPool g, lt-ltb (length scratch) leastScratch h) refl)
+
+  module _ (g : leastPool ≤ length pool) (h : leastScratch ≤ length scratch) where
+    pub checked-text : textBytes < length text → answerOf a ≡ unread 2 → Checked text pool scratch a pool scratch
+    unfolding answer
+    checked-text l = unread-kept 2 refl (rw (le-ltb (length pool) leastPool g, le-ltb (length scratch) leastScratch h, lt-ltb textBytes (length text) l) refl)
+
+    pub checked-run : length text ≤ textBytes → {capacity : ℕ} {p q p′ q′ : List ℕ} → capacity ≡ capacityOf (length pool) → Ran capacity text pool scratch a p q
+        → p′ ≡ replicate (length p) 0 → q′ ≡ replicate (length q) 0 → Checked text pool scratch a p′ q′
+    checked-run l {capacity} c r d e =
+        let w : late (a .verdict) ≡ true = ap (λ (x : answers.Answer). late (x .verdict)) (r .answer) ∙ run-late capacity start 0 (lines text) in
+        record {
+          answer = r .answer ∙ ap (λ (n : ℕ). run n start 0 (lines text)) c ∙ sym (whole text (length pool) (length scratch) g h l);
+          pool-after = d ∙ ap (λ (n : ℕ). replicate n 0) (r .pool-length) ∙ room-zeroed (a .verdict) pool w;
+          scratch-after = e ∙ ap (λ (n : ℕ). replicate n 0) (r .scratch-length) ∙ room-zeroed (a .verdict) scratch w;
+        }

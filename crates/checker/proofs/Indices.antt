@@ -1,0 +1,123 @@
+-- The index of a refused line: where it is read, and that it is in range wherever it is reported. Assumes nothing.
+use mathlib.Core.Path.{_≡_, refl, sym, ap, subst, _∙_}
+use mathlib.Core.Bool.{Bool, true, false, _&&_, not, cond}
+use mathlib.Core.Logic.{_⊎_, inl, inr}
+use mathlib.Core.List.{List, []}
+use Prim.Native.Nat.{ℕ, _+_, _≤_, _<_}
+use native.Mathlib.Omega.{arith}
+use lib.Dec.{eqb, leb, ltb}
+use lib.ListN.{length, drop}
+use borrow.Author.Tests.{leb-true, le-leb, lt-ltb}
+use Rattle.ground.proofs.Tests.{split, and-left, and-right, by-cond}
+use Rattle.limits.specs.Limits.{lineBytes}
+use Rattle.limits.specs.Verdicts.{LONGLINE, NUMBER, TERMS}
+use Rattle.paper.specs.Verdict.{first}
+use Rattle.paper.specs.Text.{Bytes, Line}
+use Rattle.paper.specs.Reader.{Read, got, stuck}
+use Rattle.paper.specs.Statement.{Written, Pair, Statement, ring, input, goal, lin, del, ext}
+use Rattle.paper.specs.Grammar.{decimal, statement}
+use Rattle.paper.specs.Meaning.{isIndex, isVariable, inRange, numbersInRange}
+use Rattle.paper.specs.State as paper
+use Rattle.paper.specs.Rules.{rules, after}
+use Rattle.paper.specs.Answer.{Outcome, stands, refused, indexOf, judge, judgeRead, judgeLine}
+use Rattle.paper.proofs.Steps.{caseOf}
+use Rattle.reader.specs.declared.line.Kind.{Kind}
+use Rattle.reader.specs.declared.line.Kind.the-variants.{Ring, Input, Goal, Lin, Del, Ext}
+use Rattle.reader.specs.Lines.{pairRanged, kindOf, Stands, Halts}
+use Rattle.reader.proofs.Fields.{Tabbed, FieldsAt, fields-at}
+use Rattle.reader.proofs.Lines.{ranged-input, ranged-lin, ranged-del, ranged-ext}
+use Rattle.ground.specs.Lists.{every}
+use Rattle.fields.specs.Fields.{Good, isWord}
+use Rattle.fields.proofs.Taking.{same-value}
+use Rattle.steps.specs.declared.state.State.{State}
+use Rattle.steps.specs.declared.state.Step.{Step}
+use Rattle.steps.specs.State.{stateOf}
+use Rattle.checker.specs.Checked.{Ranged, indexOfRead, LineJudged}
+use Rattle.checker.proofs.Judging.{ended-got}
+
+-- ---- where an index stands
+index-word : (i : ℕ) → isIndex i ≡ true → isWord i ≡ true
+unfolding isIndex isWord
+index-word i e = let l : i ≤ 4294967295 = leb-true i 4294967295 (and-right (leb 1 i) (leb i 4294967295) e) in lt-ltb i 18446744073709551616 (omega arith)
+
+-- the index i, in range, is read at m
+pub record IndexAt (line : Bytes) (m i : ℕ) : Type 0 where
+  pub word : Good decimal isWord line m
+  pub same : word .value ≡ i
+
+tabbed-index : {line : Bytes} {m i : ℕ} {r : Bytes} → Tabbed decimal line m i r → isIndex i ≡ true → IndexAt line (m + 1) i
+tabbed-index {i = i} {r} t e =
+    let l = t .inside in
+    record { word = record { value = i; rest = r; reads = t .reads; passes = index-word i e; inside = omega arith }; same = refl }
+
+-- by the kind of the statement
+abbrev pub Indexed : Bytes → Statement → Kind → Type 0
+Indexed line st Ring = indexOf st ≡ 0
+Indexed line st Input = IndexAt line 3 (indexOf st)
+Indexed line st Goal = indexOf st ≡ 0
+Indexed line st Lin = IndexAt line 4 (indexOf st)
+Indexed line st Del = IndexAt line 4 (indexOf st)
+Indexed line st Ext = IndexAt line 4 (indexOf st)
+
+by-kind : (line : Bytes) (st : Statement) → numbersInRange st ≡ true → FieldsAt line [] st → Indexed line st (kindOf st)
+unfolding indexOf
+by-kind line (ring k) e f = refl
+by-kind line (input i p) e f = tabbed-index (f .index) (and-left (isIndex i) (inRange p) (ranged-input i p ∙ e))
+by-kind line (goal p) e f = refl
+by-kind line (lin i p qs) e f = tabbed-index (f .index) (and-left (isIndex i) (inRange p && every pairRanged qs) (ranged-lin i p qs ∙ e))
+by-kind line (del i) e f = tabbed-index f (ranged-del i ∙ e)
+by-kind line (ext i v p) e f =
+    tabbed-index (f .index)
+    (and-left (isIndex i) (isVariable v) (and-left (isIndex i && isVariable v) (inRange p) (ranged-ext i v p ∙ e)))
+
+module _ {line : Bytes} {k : Kind} (h : Ranged line k) where
+  pub indexed : (j : Kind) → k ≡ j → Indexed line (h .value) j
+  indexed j e = subst (Indexed line (h .value)) (h .kind ∙ e) (by-kind line (h .value) (h .ranged) (fields-at line true (h .value) [] (h .reads)))
+
+  -- a line says one statement
+  pub index-same : {i : ℕ} → i ≡ indexOf (h .value) → (st : Statement) → statement (record { content = line; ended = true }) ≡ got st [] → i ≡ indexOf st
+  index-same e st q = e ∙ ap indexOf (same-value (h .reads) q)
+
+-- the number that was read is the index
+pub index-read : {line : Bytes} {m i n : ℕ} → IndexAt line m i → ((v : ℕ) (rest : Bytes) → decimal (drop m line) ≡ got v rest → n ≡ v) → n ≡ i
+index-read a f = f (a .word .value) (a .word .rest) (a .word .reads) ∙ a .same
+
+-- ---- what a refused line reports
+pub stands-ranged : {s : Bytes} {ended : Bool} {k : Kind} {v w : ℕ} → Stands s ended k v → TERMS ≤ w
+    → ((st : Statement) → statement (record { content = s; ended = ended }) ≡ got st [] → TERMS ≤ w → numbersInRange st ≡ true) → Ranged s k
+stands-ranged {s} {ended} h m f = record { value = h .value; reads = ended-got s ended (h .reads); kind = h .kind; ranged = f (h .value) (h .reads) m }
+
+pub reported : {s : Bytes} {ended : Bool} {k : Kind} {v w i : ℕ} → Stands s ended k v → TERMS ≤ w
+    → ((st : Statement) → statement (record { content = s; ended = true }) ≡ got st [] → i ≡ indexOf st) → i ≡ indexOfRead w (statement (record { content = s; ended = ended }))
+reported {s} {ended} {w = w} h m f =
+    f (h .value) (ended-got s ended (h .reads))
+    ∙ sym (ap (λ (b : Bool). cond b (indexOf (h .value)) 0) (le-leb TERMS w m))
+    ∙ sym (ap (indexOfRead w) (h .reads))
+
+pub unreported : {s : Bytes} {ended : Bool} {q : ℕ} (w : ℕ) → Halts s ended q → 0 ≡ indexOfRead w (statement (record { content = s; ended = ended }))
+unreported w h = sym (ap (indexOfRead w) (h .reads))
+
+-- ---- a line that is refused from TERMS on has its numbers in range
+abbrev InRange : Statement → Outcome → Type 0
+InRange st (stands s) = Unit {0}
+InRange st (refused v i) = TERMS ≤ v → numbersInRange st ≡ true
+
+unranged : (capacity : ℕ) (s : paper.State) (st : Statement) → numbersInRange st ≡ false → first rules (caseOf capacity s st) ≡ 5
+unfolding first rules
+unranged capacity s st e = rw e
+
+judge-ranged : (capacity : ℕ) (s : paper.State) (st : Statement) → (numbersInRange st ≡ true) ⊎ (numbersInRange st ≡ false) → InRange st (judge capacity s st)
+unfolding judge
+judge-ranged capacity s st (inl e) = by-cond (InRange st) (eqb (first rules (caseOf capacity s st)) 0) (λ _. tt) (λ _ _. e)
+judge-ranged capacity s st (inr e) = rw (unranged capacity s st e) (λ m. absurd (let z : ⊥ = omega arith in z))
+
+line-ranged : (capacity : ℕ) (s : paper.State) (l : Line) (st : Statement) (r : Bytes) → statement l ≡ got st r → InRange st (judgeLine capacity s l)
+unfolding judgeLine judgeRead
+line-ranged capacity s l st r e =
+    by-cond (InRange st) (ltb lineBytes (length (l .content))) (λ _ m. absurd (let z : ⊥ = omega arith in z))
+    (λ _. subst (λ (x : Read Statement). InRange st (judgeRead capacity s x)) (sym e) (judge-ranged capacity s st (split (numbersInRange st))))
+
+pub refused-ranged : {capacity : ℕ} {l : Line} {s : State} {pool scratch : List ℕ} {r : Step} {pool′ scratch′ : List ℕ}
+    → LineJudged capacity l s pool scratch r pool′ scratch′ → (r .verdict ≡ 0 → ⊥)
+    → (st : Statement) → statement l ≡ got st [] → TERMS ≤ r .verdict → numbersInRange st ≡ true
+refused-ranged {capacity} {l} {s} {pool} {scratch} j n st e = subst (InRange st) (j .refused n) (line-ranged capacity (stateOf s pool scratch) l st [] e)

@@ -1,0 +1,140 @@
+-- What makes a judged line: one that is too long, one that cannot be read, one that a scan refuses, and one that is stepped. Assumes nothing.
+use mathlib.Core.Path.{_≡_, refl, sym, ap, subst, _∙_}
+use mathlib.Core.Bool.{Bool, true, false, not, cond}
+use mathlib.Core.List.{List, []}
+use Prim.Native.Nat.{ℕ, _≤_, _<_}
+use native.Mathlib.Omega.{arith}
+use lib.Dec.{eqb, leb, ltb}
+use lib.ListN.{length}
+use borrow.Author.Tests.{ne-eqb, lt-leb, not-false}
+use Rattle.ground.specs.Lists.{any}
+use Rattle.limits.specs.Limits.{lineBytes}
+use Rattle.limits.specs.Verdicts.{LONGLINE, FORM, NUMBER, TERMS, ACCEPTED}
+use Rattle.paper.specs.Verdict.{first}
+use Rattle.paper.specs.Text.{Bytes, Line}
+use Rattle.paper.specs.Reader.{Read, got, stuck}
+use Rattle.paper.specs.Statement.{Statement, fields}
+use Rattle.paper.specs.Grammar.{kinds, oneOf, stopShort, statement}
+use Rattle.paper.specs.Meaning.{numbersInRange, tooManyTerms}
+use Rattle.paper.specs.State as paper
+use Rattle.paper.specs.Rules.{rules, after}
+use Rattle.paper.specs.Answer.{stands, refused, indexOf, judge, judgeRead, judgeLine}
+use Rattle.paper.proofs.Steps.{caseOf}
+use Rattle.paper.proofs.Judging.{judge-stands}
+use Rattle.paper.proofs.Running.{line-long, line-stuck, line-read}
+use Rattle.reader.specs.declared.line.Kind.{Kind}
+use Rattle.reader.specs.declared.line.LineScan.{LineScan}
+use Rattle.reader.specs.declared.line.LineScan.the-variants.{Line as Scanned, Stuck}
+use Rattle.reader.specs.Lines.{Stands, Halts, LineIs}
+use Rattle.steps.specs.declared.state.State.{State}
+use Rattle.steps.specs.declared.state.Step.{Step}
+use Rattle.steps.specs.State.{stateOf}
+use Rattle.steps.specs.Steps.{Says, Stepped, Does}
+use Rattle.checker.specs.Checked.{indexOfRead, LineJudged}
+
+abbrev lineOf : Bytes → Bool → Line
+lineOf s ended = record { content = s; ended = ended }
+
+-- ---- only a line with its byte 10 can be read
+no-short : (x : Read Statement) {st : Statement} {r : Bytes} → stopShort x ≡ got st r → ⊥
+unfolding stopShort
+no-short (got y t) e = let z : _≡_ {A = ℕ} 0 1 = cc in omega arith
+no-short (stuck t) e = let z : _≡_ {A = ℕ} 0 1 = cc in omega arith
+
+pub ended-got : (s : Bytes) (ended : Bool) {st : Statement} {r : Bytes} → statement (lineOf s ended) ≡ got st r → statement (lineOf s true) ≡ got st r
+unfolding statement
+ended-got s true e = e
+ended-got s false e = absurd (no-short (oneOf kinds s) e)
+
+-- ---- what the scan of a line says
+pub scanned : {s : Bytes} {ended : Bool} {x : LineScan} {k : Kind} {v : ℕ} → x ≡ Scanned k v → LineIs s ended x → Stands s ended k v
+scanned e h = rw e at h
+
+pub halted : {s : Bytes} {ended : Bool} {x : LineScan} {q : ℕ} → x ≡ Stuck q → LineIs s ended x → Halts s ended q
+halted e h = rw e at h
+
+verdict-none : (a b : Bool) → 0 ≡ cond (not a) NUMBER (cond b TERMS ACCEPTED) → (a ≡ true) × (b ≡ false)
+verdict-none true true e = absurd (let z : ⊥ = omega arith in z)
+verdict-none true false e = (refl, refl)
+verdict-none false b e = absurd (let z : ⊥ = omega arith in z)
+
+pub stands-says : {s : Bytes} {ended : Bool} {k : Kind} {v : ℕ} → Stands s ended k v → v ≡ 0 → Says s k
+stands-says {s} {ended} h z =
+    let st = h .value in
+    let p = verdict-none (numbersInRange st) (any tooManyTerms (fields st)) (sym z ∙ h .verdict) in
+    record { value = st; reads = ended-got s ended (h .reads); kind = h .kind; ranged = p .0; short = p .1 }
+
+pub says-as : {s : Bytes} {k j : Kind} → k ≡ j → Says s k → Says s j
+says-as {s} e h = subst (Says s) e h
+
+-- ---- the rows NUMBER and TERMS
+verdict-some : (a b : Bool) (v w : ℕ) → v ≡ cond (not a) NUMBER (cond b TERMS ACCEPTED) → (v ≡ 0 → ⊥) → cond (not a) NUMBER (cond b TERMS w) ≡ v
+verdict-some true true v w e n = sym e
+verdict-some true false v w e n = absurd (n e)
+verdict-some false b v w e n = sym e
+
+first-scanned : (capacity : ℕ) (s : paper.State) (st : Statement) (v : ℕ) → v ≡ cond (not (numbersInRange st)) NUMBER (cond (any tooManyTerms (fields st)) TERMS ACCEPTED)
+    → (v ≡ 0 → ⊥) → first rules (caseOf capacity s st) ≡ v
+unfolding first rules
+first-scanned capacity s st v e n = verdict-some (numbersInRange st) (any tooManyTerms (fields st)) v _ e n
+
+-- ---- judging
+judge-index : (capacity : ℕ) (s : paper.State) (st : Statement) (v : ℕ) (r : Bytes) → (v ≡ 0 → ⊥) → first rules (caseOf capacity s st) ≡ v
+    → judge capacity s st ≡ refused v (indexOfRead v (got st r))
+unfolding judge
+judge-index capacity s st v r n e = rw (e, ne-eqb v 0 n) refl
+
+-- no index goes with a verdict before TERMS
+pub no-index : (v : ℕ) (x : Read Statement) → v < TERMS → indexOfRead v x ≡ 0
+no-index v (got st r) h = rw (lt-leb TERMS v h) refl
+no-index v (stuck r) h = refl
+
+module _ {capacity : ℕ} {l : Line} {s : State} {pool scratch : List ℕ} {r : Step} where
+  turned : (v : ℕ) → (v ≡ 0 → ⊥) → judgeLine capacity (stateOf s pool scratch) l ≡ refused v (indexOfRead v (statement l)) → (r .verdict ≡ v) × (r .state ≡ s)
+      → LineJudged capacity l s pool scratch r pool scratch
+  turned v n e h =
+      record {
+        stands = λ z. absurd (n (sym (h .0) ∙ z));
+        ready = λ z. absurd (n (sym (h .0) ∙ z));
+        refused = λ _. subst (λ (w : ℕ). judgeLine capacity (stateOf s pool scratch) l ≡ refused w (indexOfRead w (statement l))) (sym (h .0)) e;
+        back = λ _. h .1;
+        lines = ap (λ (x : State). x .lines) (h .1);
+        pool-length = refl;
+        scratch-length = refl;
+      }
+
+  pub judged-long : lineBytes < length (l .content) → (r .verdict ≡ 3) × (r .state ≡ s) → LineJudged capacity l s pool scratch r pool scratch
+  judged-long m h =
+      turned 3 (λ z. omega arith)
+      (line-long capacity (stateOf s pool scratch) l m ∙ ap (λ (i : ℕ). refused 3 i) (sym (no-index 3 (statement l) (omega arith)))) h
+
+  pub judged-stuck : length (l .content) ≤ lineBytes → (t : Bytes) → statement l ≡ stuck t → (r .verdict ≡ 4) × (r .state ≡ s) → LineJudged capacity l s pool scratch r pool scratch
+  judged-stuck m t e h =
+      turned 4 (λ z. omega arith)
+      (line-stuck capacity (stateOf s pool scratch) l t m e ∙ ap (λ (i : ℕ). refused 4 i) (sym (no-index 4 (statement l) (omega arith)))) h
+
+module _ {line : Bytes} {ended : Bool} (m : length line ≤ lineBytes) {k : Kind} {v : ℕ} (h : Stands line ended k v) where
+  read-refused : (capacity : ℕ) (s : paper.State) (w : ℕ) → (w ≡ 0 → ⊥) → first rules (caseOf capacity s (h .value)) ≡ w
+      → judgeLine capacity s (lineOf line ended) ≡ refused w (indexOfRead w (statement (lineOf line ended)))
+  read-refused capacity s w n e =
+      line-read capacity s (lineOf line ended) (h .value) [] m (h .reads)
+      ∙ judge-index capacity s (h .value) w [] n e
+      ∙ ap (λ (x : Read Statement). refused w (indexOfRead w x)) (sym (h .reads))
+
+  pub judged-scan : {capacity : ℕ} {s : State} {pool scratch : List ℕ} {r : Step} → (v ≡ 0 → ⊥) → (r .verdict ≡ v) × (r .state ≡ s) → LineJudged capacity (lineOf line ended) s pool scratch r pool scratch
+  judged-scan {capacity} {s} {pool} {scratch} n q = turned v n (read-refused capacity (stateOf s pool scratch) v n (first-scanned capacity (stateOf s pool scratch) (h .value) v (h .verdict) n)) q
+
+  pub judged-step : {capacity : ℕ} {s : State} {pool scratch : List ℕ} {r : Step} {pool′ scratch′ : List ℕ} → Does capacity line s pool scratch r pool′ scratch′ → LineJudged capacity (lineOf line ended) s pool scratch r pool′ scratch′
+  judged-step {capacity} {s} {pool} {scratch} {r} d =
+      let q = d (h .value) (ended-got line ended (h .reads)) in
+      record {
+        stands = λ z. line-read capacity (stateOf s pool scratch) (lineOf line ended) (h .value) [] m (h .reads)
+            ∙ judge-stands capacity (stateOf s pool scratch) (h .value) (q .verdict ∙ z)
+            ∙ ap (λ (x : paper.State). stands x) (sym (q .next z));
+        ready = q .ready;
+        refused = λ n. read-refused capacity (stateOf s pool scratch) (r .verdict) n (q .verdict);
+        back = q .back;
+        lines = q .lines;
+        pool-length = q .pool-length;
+        scratch-length = q .scratch-length;
+      }

@@ -1,0 +1,4 @@
+pub mod Judging
+pub mod Indices
+pub mod Running
+pub mod Checking
