@@ -1,0 +1,239 @@
+//! Texts with known answers: the paper's samples, every verdict, and every limit on both sides.
+
+use crate::independent::{check, Answer};
+
+/// A text in pieces, each repeated, with the words of pool and scratch lent to it.
+pub struct Case {
+    pub pool: usize,
+    pub scratch: usize,
+    pub pieces: Vec<(usize, Vec<u8>)>,
+}
+
+pub const POOL: usize = 8000;
+pub const SCRATCH: usize = 6560;
+
+impl Case {
+    pub fn text(&self) -> Vec<u8> {
+        self.pieces.iter().flat_map(|(n, piece)| piece.repeat(*n)).collect()
+    }
+
+    pub fn answer(&self) -> Answer {
+        check(&self.text(), self.pool, self.scratch)
+    }
+}
+
+fn case(text: &str) -> Case {
+    Case { pool: POOL, scratch: SCRATCH, pieces: vec![(1, text.as_bytes().to_vec())] }
+}
+
+fn in_room(pool: usize, scratch: usize, text: &str) -> Case {
+    Case { pool, scratch, ..case(text) }
+}
+
+fn pieces(list: &[(usize, &str)]) -> Case {
+    Case { pieces: list.iter().map(|(n, s)| (*n, s.as_bytes().to_vec())).collect(), ..case("") }
+}
+
+const SAMPLE: &str = "ring\t8\nin\t1\t-1.2 1.0.1\ngoal\t1.2 -1.0.2\nlin\t2\t1.2 -1.0.2\t1\t1.0 -1\n";
+
+fn terms(n: usize) -> String {
+    (0..n).map(|i| format!("1.{i}")).collect::<Vec<_>>().join(" ")
+}
+
+fn repeated(n: usize) -> String {
+    vec!["1.1"; n].join(" ")
+}
+
+fn inputs(n: usize, field: &str) -> String {
+    (1..=n).map(|i| format!("in\t{i}\t{field}\n")).collect()
+}
+
+/// The paper's samples, 1 to 16.
+fn samples() -> Vec<Case> {
+    let ext = |k: usize, p: &str| case(&format!("ring\t{k}\ngoal\t1\next\t1\t200\t{p}\n"));
+    vec![
+        case(SAMPLE),
+        case("ring\t8\nin\t1\t-1.2 1.0.1\ngoal\t1.2 -1.0.2\n"),
+        case("ring\t8\nin\t1\t-1.2 1.0.1\ngoal\t1.2 -1.0.2\nlin\t2\t1.2\t1\t1.0 -1\n"),
+        case(""),
+        ext(1, "1.0 1.1"),
+        ext(2, "1.0 1.1"),
+        ext(8, "1.0 1.1 -2.0.1"),
+        ext(1, "2.0"),
+        ext(2, "2.0"),
+        ext(1, &terms(32)),
+        ext(1, &terms(33)),
+        case("ring\t0\n"),
+        case("ring\t1\n"),
+        case("ring\t64\n"),
+        case("ring\t65\n"),
+        case("ring\t8\nin\t1\t00\n"),
+        case("ring\t8\nin\t1\t-0\n"),
+        pieces(&[(1, "ring\t8\nin\t1\t1"), (4093, ".1"), (1, "\n")]),
+        pieces(&[(1, "ring\t8\nin\t1\t1"), (4092, ".1"), (1, ".11\n")]),
+        case(&format!("ring\t8\n{}", inputs(512, "0"))),
+        case(&format!("ring\t8\n{}", inputs(513, "0"))),
+    ]
+}
+
+/// Every verdict, at two places or more.
+fn verdicts() -> Vec<Case> {
+    let after = |lines: &str| case(&format!("ring\t8\nin\t1\t1.0 -1.1\nin\t2\t1.1\ngoal\t1.0\n{lines}"));
+    vec![
+        in_room(479, SCRATCH, SAMPLE),
+        in_room(480, SCRATCH - 1, SAMPLE),
+        in_room(0, 0, ""),
+        in_room(480, SCRATCH, SAMPLE),
+        pieces(&[(1, "ring\t8\n"), (1_048_569, "x")]),
+        pieces(&[(1, "ring\t8\n"), (1_048_570, "x")]),
+        pieces(&[(1_048_577, "\n")]),
+        pieces(&[(1_048_576, "\n")]),
+        pieces(&[(1, "ring\t8\n"), (100_000, "in\t1\t1\n")]),
+        pieces(&[(8193, "x"), (1, "\n")]),
+        pieces(&[(1, SAMPLE), (8193, "\t"), (1, "\n")]),
+        pieces(&[(1, "ring\t8\n"), (8193, "1")]),
+        pieces(&[(1, "ring\t8\n"), (8192, "1")]),
+        case("\n"),
+        case("ring\t8"),
+        case("ring\t8\n\n"),
+        case("ring\t8\r\n"),
+        case("Ring\t8\n"),
+        case("ring 8\n"),
+        case("ring\t\n"),
+        case("ring\t8\t\n"),
+        after("lin\t3\t1\n"),
+        after("lin\t3\t1\t1\n"),
+        after("lin\t3\t1\t1\t1\t2\n"),
+        after("del\n"),
+        after("ext\t3\t4\n"),
+        after("ext\t3\t4\t1 \n"),
+        after("ext\t3\t4\t1..2\n"),
+        after("foo\t3\n"),
+        after("del\t01\n"),
+        after("del\t0\n"),
+        after("del\t4294967295\n"),
+        after("del\t4294967296\n"),
+        after("ext\t3\t255\t1.254\n"),
+        after("ext\t3\t256\t1\n"),
+        after("lin\t3\t1.256\t1\t1\n"),
+        after("lin\t3\t18446744073709551615\t1\t18446744073709551615\n"),
+        after("lin\t3\t18446744073709551616\t1\t1\n"),
+        after("lin\t3\t0 1\t1\t1\n"),
+        after("lin\t3\t0.3\t1\t1\n"),
+        after("lin\t3\t1\t0\t1\tx\n"),
+        after(&format!("lin\t3\t{}\t1\t0\n", repeated(97))),
+        after(&format!("lin\t3\t0\t1\t{}\n", repeated(97))),
+        after(&format!("lin\t3\t{}\t1\t0 1\n", repeated(97))),
+        after(&format!("lin\t3\t96.0.1\t1\t{}\n", repeated(96))),
+        case(&format!("ring\t8\ngoal\t{}\n", repeated(97))),
+        case(&format!("in\t1\t{}\n", repeated(97))),
+        case("in\t1\t1\n"),
+        case("ring\t8\nring\t8\n"),
+        after("ring\t8\n"),
+        after("in\t3\t1\n"),
+        after("goal\t1\n"),
+        case("ring\t8\nlin\t1\t1\t1\t1\n"),
+        case("ring\t8\nin\t7\t1\nin\t7\t1\n"),
+        after("lin\t2\t1.1\t2\t1\n"),
+        after("ext\t1\t5\t1\n"),
+        after("del\t3\n"),
+        after("del\t1\ndel\t1\n"),
+        after("lin\t3\t0\t1\t0\t9\t0\n"),
+        after("del\t2\nlin\t2\t0\t1\t0\n"),
+        after("del\t2\nlin\t3\t0\t2\t0\n"),
+        after("ext\t3\t1\t1\n"),
+        after("ext\t3\t4\t1.4\n"),
+        after("ext\t3\t4\t1.1\ndel\t3\next\t3\t4\t1 -1.1\n"),
+        after("ext\t3\t4\t1.5\next\t6\t5\t1 -1.4\n"),
+        after("lin\t3\t0\t1\t1.9 -1.9\next\t4\t9\t1\n"),
+        after("lin\t3\t0\t1\t256.9\next\t4\t9\t1\n"),
+        after("lin\t3\t1.0.9 -1.1.9\t1\t1.9\next\t4\t9\t1\n"),
+        after(&format!("ext\t3\t200\t{}\n", terms(33))),
+        after(&format!("lin\t3\t0{}\n", format!("\t1\t{}", terms(64)).repeat(8))),
+        after(&format!("lin\t3\t0{}\t1\t1\n", format!("\t1\t{}", terms(64)).repeat(8))),
+        after("lin\t3\t1.0\t1\t1\n"),
+        after("lin\t3\t1.0\t1\t1\t2\t1\n"),
+        after("lin\t3\t1.0 -1.1 1\t1\t1\n"),
+        after("ext\t3\t4\t2\n"),
+        after("ext\t3\t4\t1.0 1.1\n"),
+        after("ext\t3\t4\t1.0.1\nlin\t5\t1.0\t2\t1\t1\t1\n"),
+        case("ring\t8\nin\t1\t1\n"),
+        case("ring\t8\n"),
+        after(""),
+        case("ring\t8\ngoal\t0\n"),
+        case("ring\t8\nin\t1\t1 -1\ngoal\t0\n"),
+        case("ring\t8\nin\t1\t1 -1\ngoal\t0\ndel\t1\n"),
+        after("lin\t3\t0\t1\t0\n"),
+        after("ext\t3\t4\t1.0\nlin\t5\t1.0\t1\t1\t2\t1\ndel\t5\n"),
+    ]
+}
+
+/// The room of the pool: exact fits, and room that del frees.
+fn rooms() -> Vec<Case> {
+    let full = |pool: usize, lines: &str| in_room(pool, SCRATCH, &format!("ring\t8\n{lines}"));
+    let wide = |i: usize| format!("in\t{i}\t{}\n", terms(96));
+    vec![
+        full(480, &wide(1)),
+        full(480, &format!("{}in\t2\t1\n", wide(1))),
+        full(484, &format!("{}in\t2\t1\n", wide(1))),
+        full(485, &format!("{}in\t2\t1\n", wide(1))),
+        full(485, &format!("{}in\t2\t1\nin\t3\t0\n", wide(1))),
+        full(480, &format!("{}goal\t1\nlin\t2\t1\t1\t0\n", wide(1))),
+        full(480, &format!("{}goal\t0\nlin\t2\t0\t1\t0\ndel\t1\next\t1\t200\t{}\n", wide(1), "1.0")),
+        full(480, &format!("{}goal\t0\nlin\t2\t0\t1\t0\next\t3\t200\t1\n", wide(1))),
+        full(POOL, &format!("{}goal\t0\ndel\t1\nlin\t1\t1\t2\t1\ndel\t512\nlin\t600\t1\t3\t1\nlin\t601\t1\t3\t1\n", inputs(512, "1"))),
+        in_room(POOL, SCRATCH + 1, SAMPLE),
+        in_room(POOL + 3, SCRATCH + 100, SAMPLE),
+    ]
+}
+
+pub fn all() -> Vec<Case> {
+    samples().into_iter().chain(verdicts()).chain(rooms()).collect()
+}
+
+/// The cases as the program `check_cases` reads them.
+pub fn input() -> Vec<u8> {
+    let mut out = Vec::new();
+    for case in all() {
+        out.extend(format!("{} {} {}\n", case.pool, case.scratch, case.pieces.len()).bytes());
+        for (count, piece) in &case.pieces {
+            out.extend(format!("{} {}\n", count, piece.len()).bytes());
+            out.extend(piece);
+        }
+    }
+    out
+}
+
+/// What `check_cases` must print for them.
+pub fn output() -> Vec<u8> {
+    let mut out = Vec::new();
+    for case in all() {
+        let a = case.answer();
+        let rooms = if a.verdict == 1 || a.verdict == 2 { "untouched" } else { "zero" };
+        let numbers = [a.verdict, a.line, a.index, a.products, a.polynomials, a.terms].map(|n| n.to_string()).join("\t");
+        out.extend(format!("{numbers}\t{rooms}\t{rooms}\n").bytes());
+    }
+    out
+}
+
+#[cfg(test)]
+mod tests {
+    use super::*;
+
+    #[test]
+    fn the_program_is_run_on_these_cases() {
+        let crate_dir = concat!(env!("CARGO_MANIFEST_DIR"), "/../crates/check_cases");
+        assert_eq!(std::fs::read(format!("{crate_dir}/stdin")).unwrap(), input());
+        assert_eq!(std::fs::read(format!("{crate_dir}/stdout")).unwrap(), output());
+    }
+
+    #[test]
+    fn every_verdict_is_given_at_two_places() {
+        for verdict in 0..=16 {
+            let mut places: Vec<(Vec<u8>, u64)> = Vec::new();
+            places.extend(all().iter().filter(|c| c.answer().verdict == verdict).map(|c| (c.text(), c.answer().line)));
+            places.dedup();
+            assert!(places.len() >= 2, "{verdict}");
+        }
+    }
+}

@@ -1,0 +1,379 @@
+//! A checker written from the rule paper alone, with ordinary containers: what the proved one is compared with.
+
+use std::collections::{BTreeMap, HashMap, HashSet};
+
+pub const SHORT: u64 = 1;
+pub const LONGTEXT: u64 = 2;
+pub const LONGLINE: u64 = 3;
+pub const FORM: u64 = 4;
+pub const NUMBER: u64 = 5;
+pub const TERMS: u64 = 6;
+pub const ORDER: u64 = 7;
+pub const TAKEN: u64 = 8;
+pub const MISSING: u64 = 9;
+pub const SEEN: u64 = 10;
+pub const PRODUCTS: u64 = 11;
+pub const MISMATCH: u64 = 12;
+pub const NOTBIT: u64 = 13;
+pub const FULL: u64 = 14;
+pub const NOGOAL: u64 = 15;
+pub const NOTREACHED: u64 = 16;
+
+/// The six numbers of an answer.
+#[derive(Clone, Copy, Debug, Default, PartialEq, Eq)]
+pub struct Answer {
+    pub verdict: u64,
+    pub line: u64,
+    pub index: u64,
+    pub products: u64,
+    pub polynomials: u64,
+    pub terms: u64,
+}
+
+/// A decimal as written: `None` where it does not fit 64 bits, which no range allows.
+type Decimal = Option<u64>;
+
+/// A set of variables, the highest first, so that comparing two lists of words compares two numbers.
+type Set = [u64; 4];
+
+/// Reduced polynomials: no zero coefficient.
+type Poly = BTreeMap<Set, u64>;
+
+struct WrittenTerm {
+    negative: bool,
+    magnitude: Decimal,
+    variables: Vec<Decimal>,
+}
+
+type Written = Vec<WrittenTerm>;
+
+enum Statement {
+    Ring(Decimal),
+    In(Decimal, Written),
+    Goal(Written),
+    Lin(Decimal, Written, Vec<(Decimal, Written)>),
+    Del(Decimal),
+    Ext(Decimal, Decimal, Written),
+}
+
+// ---- reading: fields are cut at tabs, terms at spaces, variables at dots
+
+fn decimal(s: &[u8]) -> Result<Decimal, ()> {
+    if s.is_empty() || !s.iter().all(u8::is_ascii_digit) || (s.len() > 1 && s[0] == b'0') {
+        return Err(());
+    }
+    Ok(std::str::from_utf8(s).unwrap().parse().ok())
+}
+
+fn term(s: &[u8]) -> Result<WrittenTerm, ()> {
+    let (negative, rest) = match s.strip_prefix(b"-") {
+        Some(rest) => (true, rest),
+        None => (false, s),
+    };
+    let mut numbers = rest.split(|&b| b == b'.').map(decimal);
+    let magnitude = numbers.next().unwrap()?;
+    let variables = numbers.collect::<Result<_, _>>()?;
+    Ok(WrittenTerm { negative, magnitude, variables })
+}
+
+fn polynomial(s: &[u8]) -> Result<Written, ()> {
+    if s == b"0" {
+        return Ok(Vec::new());
+    }
+    s.split(|&b| b == b' ').map(term).collect()
+}
+
+fn statement(line: &[u8]) -> Result<Statement, ()> {
+    let f: Vec<&[u8]> = line.split(|&b| b == b'\t').collect();
+    Ok(match (f[0], f.len()) {
+        (b"ring", 2) => Statement::Ring(decimal(f[1])?),
+        (b"in", 3) => Statement::In(decimal(f[1])?, polynomial(f[2])?),
+        (b"goal", 2) => Statement::Goal(polynomial(f[1])?),
+        (b"lin", n) if n >= 5 && n % 2 == 1 => {
+            let pairs = f[3..].chunks(2).map(|q| Ok((decimal(q[0])?, polynomial(q[1])?)));
+            Statement::Lin(decimal(f[1])?, polynomial(f[2])?, pairs.collect::<Result<_, ()>>()?)
+        }
+        (b"del", 2) => Statement::Del(decimal(f[1])?),
+        (b"ext", 4) => Statement::Ext(decimal(f[1])?, decimal(f[2])?, polynomial(f[3])?),
+        _ => return Err(()),
+    })
+}
+
+// ---- ranges
+
+fn within(low: u64, high: u64, d: Decimal) -> bool {
+    d.is_some_and(|n| low <= n && n <= high)
+}
+
+fn is_index(d: Decimal) -> bool {
+    within(1, u32::MAX as u64, d)
+}
+
+fn in_range(p: &Written) -> bool {
+    p.iter().all(|t| within(1, u64::MAX, t.magnitude) && t.variables.iter().all(|&v| within(0, 255, v)))
+}
+
+impl Statement {
+    fn fields(&self) -> Vec<&Written> {
+        match self {
+            Statement::In(_, p) | Statement::Goal(p) | Statement::Ext(_, _, p) => vec![p],
+            Statement::Lin(_, p, pairs) => std::iter::once(p).chain(pairs.iter().map(|q| &q.1)).collect(),
+            Statement::Ring(_) | Statement::Del(_) => vec![],
+        }
+    }
+
+    fn numbers_in_range(&self) -> bool {
+        let own = match self {
+            Statement::Ring(k) => within(1, 64, *k),
+            Statement::In(i, _) | Statement::Del(i) => is_index(*i),
+            Statement::Goal(_) => true,
+            Statement::Lin(i, _, pairs) => is_index(*i) && pairs.iter().all(|q| is_index(q.0)),
+            Statement::Ext(i, v, _) => is_index(*i) && within(0, 255, *v),
+        };
+        own && self.fields().into_iter().all(in_range)
+    }
+
+    fn index(&self) -> u64 {
+        match self {
+            Statement::In(i, _) | Statement::Lin(i, _, _) | Statement::Del(i) | Statement::Ext(i, _, _) => i.unwrap_or(0),
+            Statement::Ring(_) | Statement::Goal(_) => 0,
+        }
+    }
+}
+
+// ---- polynomials modulo 2^k
+
+fn union(a: &Set, b: &Set) -> Set {
+    std::array::from_fn(|i| a[i] | b[i])
+}
+
+fn mask(k: u32) -> u64 {
+    u64::MAX >> (64 - k)
+}
+
+fn add(p: &mut Poly, set: Set, c: u64, k: u32) {
+    let sum = p.remove(&set).unwrap_or(0).wrapping_add(c) & mask(k);
+    if sum != 0 {
+        p.insert(set, sum);
+    }
+}
+
+fn single(v: u64) -> Set {
+    let mut set = [0; 4];
+    set[3 - (v / 64) as usize] = 1 << (v % 64);
+    set
+}
+
+fn reduced(written: &Written, k: u32) -> Poly {
+    let mut p = Poly::new();
+    for t in written {
+        let set = t.variables.iter().fold([0; 4], |s, v| union(&s, &single(v.unwrap())));
+        let m = t.magnitude.unwrap();
+        add(&mut p, set, if t.negative { m.wrapping_neg() } else { m }, k);
+    }
+    p
+}
+
+fn add_product(sum: &mut Poly, p: &Poly, q: &Poly, k: u32) {
+    for (s, c) in p {
+        for (t, d) in q {
+            add(sum, union(s, t), c.wrapping_mul(*d), k);
+        }
+    }
+}
+
+// ---- the steps
+
+#[derive(PartialEq)]
+enum Phase {
+    Opening,
+    Inputs,
+    Steps,
+}
+
+struct State {
+    phase: Phase,
+    k: u32,
+    capacity: usize,
+    store: HashMap<u64, Poly>,
+    seen: HashSet<u64>,
+    goal: Poly,
+    reached: bool,
+    products: u64,
+}
+
+impl State {
+    fn terms(&self) -> usize {
+        self.store.values().map(|p| p.len()).sum()
+    }
+
+    fn see(&mut self, p: &Poly) {
+        for set in p.keys() {
+            for v in 0..256 {
+                if union(set, &single(v)) == *set {
+                    self.seen.insert(v);
+                }
+            }
+        }
+    }
+
+    fn place(&mut self, index: u64, p: Poly) -> Result<(), u64> {
+        if self.store.len() >= 512 || self.terms() + p.len() > self.capacity {
+            return Err(FULL);
+        }
+        self.see(&p);
+        if self.phase == Phase::Steps && p == self.goal {
+            self.reached = true;
+        }
+        self.store.insert(index, p);
+        Ok(())
+    }
+
+    fn stands(&self, phase: Phase) -> Result<(), u64> {
+        if self.phase == phase {
+            Ok(())
+        } else {
+            Err(ORDER)
+        }
+    }
+
+    fn free(&self, index: u64) -> Result<(), u64> {
+        if self.store.contains_key(&index) {
+            Err(TAKEN)
+        } else {
+            Ok(())
+        }
+    }
+
+    fn step(&mut self, statement: &Statement) -> Result<(), u64> {
+        if !statement.numbers_in_range() {
+            return Err(NUMBER);
+        }
+        if statement.fields().iter().any(|p| p.len() > 96) {
+            return Err(TERMS);
+        }
+        match statement {
+            Statement::Ring(k) => {
+                self.stands(Phase::Opening)?;
+                self.k = k.unwrap() as u32;
+                self.phase = Phase::Inputs;
+            }
+            Statement::In(i, p) => {
+                self.stands(Phase::Inputs)?;
+                self.free(i.unwrap())?;
+                self.place(i.unwrap(), reduced(p, self.k))?;
+            }
+            Statement::Goal(p) => {
+                self.stands(Phase::Inputs)?;
+                self.goal = reduced(p, self.k);
+                self.see(&self.goal.clone());
+                self.reached = self.store.values().any(|q| *q == self.goal);
+                self.phase = Phase::Steps;
+            }
+            Statement::Lin(i, stated, pairs) => self.lin(i.unwrap(), stated, pairs)?,
+            Statement::Del(i) => {
+                self.stands(Phase::Steps)?;
+                self.store.remove(&i.unwrap()).ok_or(MISSING)?;
+            }
+            Statement::Ext(i, v, p) => self.ext(i.unwrap(), v.unwrap(), p)?,
+        }
+        Ok(())
+    }
+
+    fn lin(&mut self, i: u64, stated: &Written, pairs: &[(Decimal, Written)]) -> Result<(), u64> {
+        self.stands(Phase::Steps)?;
+        self.free(i)?;
+        if pairs.iter().any(|q| !self.store.contains_key(&q.0.unwrap())) {
+            return Err(MISSING);
+        }
+        let factors: Vec<Poly> = pairs.iter().map(|q| reduced(&q.1, self.k)).collect();
+        let named: Vec<&Poly> = pairs.iter().map(|q| &self.store[&q.0.unwrap()]).collect();
+        let products: usize = factors.iter().zip(&named).map(|(f, p)| f.len() * p.len()).sum();
+        if products > 1024 {
+            return Err(PRODUCTS);
+        }
+        let mut sum = Poly::new();
+        for (f, p) in factors.iter().zip(&named) {
+            add_product(&mut sum, f, p, self.k);
+        }
+        let stated = reduced(stated, self.k);
+        if sum != stated {
+            return Err(MISMATCH);
+        }
+        self.place(i, stated)?;
+        for f in &factors {
+            self.see(f);
+        }
+        self.products += products as u64;
+        Ok(())
+    }
+
+    fn ext(&mut self, i: u64, v: u64, p: &Written) -> Result<(), u64> {
+        self.stands(Phase::Steps)?;
+        self.free(i)?;
+        let p = reduced(p, self.k);
+        if self.seen.contains(&v) || p.keys().any(|s| union(s, &single(v)) == *s) {
+            return Err(SEEN);
+        }
+        let products = p.len() * p.len();
+        if products > 1024 {
+            return Err(PRODUCTS);
+        }
+        let mut square = Poly::new();
+        add_product(&mut square, &p, &p, self.k);
+        if square != p {
+            return Err(NOTBIT);
+        }
+        let mut stored = p.clone();
+        add(&mut stored, single(v), u64::MAX, self.k);
+        self.place(i, stored)?;
+        self.see(&p);
+        self.seen.insert(v);
+        self.products += products as u64;
+        Ok(())
+    }
+
+    fn report(&self, verdict: u64, line: u64, index: u64) -> Answer {
+        let polynomials = self.store.len() as u64;
+        Answer { verdict, line, index, products: self.products, polynomials, terms: self.terms() as u64 }
+    }
+}
+
+/// The answer for a text, with so many words of pool and scratch lent.
+pub fn check(text: &[u8], pool: usize, scratch: usize) -> Answer {
+    if pool < 480 || scratch < 6560 {
+        return Answer { verdict: SHORT, ..Answer::default() };
+    }
+    if text.len() > 1_048_576 {
+        return Answer { verdict: LONGTEXT, ..Answer::default() };
+    }
+    let mut state = State {
+        phase: Phase::Opening,
+        k: 0,
+        capacity: (pool / 5).min(65_536),
+        store: HashMap::new(),
+        seen: HashSet::new(),
+        goal: Poly::new(),
+        reached: false,
+        products: 0,
+    };
+    let mut count = 0;
+    for line in text.split_inclusive(|&b| b == b'\n') {
+        count += 1;
+        let content = line.strip_suffix(b"\n");
+        if content.unwrap_or(line).len() > 8192 {
+            return state.report(LONGLINE, count, 0);
+        }
+        let Some(Ok(statement)) = content.map(statement) else {
+            return state.report(FORM, count, 0);
+        };
+        if let Err(verdict) = state.step(&statement) {
+            return state.report(verdict, count, if verdict >= TERMS { statement.index() } else { 0 });
+        }
+    }
+    match (state.phase == Phase::Steps, state.reached) {
+        (false, _) => state.report(NOGOAL, count, 0),
+        (true, false) => state.report(NOTREACHED, count, 0),
+        (true, true) => state.report(0, 0, 0),
+    }
+}
