@@ -1,0 +1,33 @@
+// Reads a text from standard input, checks it, and writes the six numbers of the answer, parted by tabs.
+use checker::answer::Answer;
+use checker::answer::unread;
+use libc::STDIN_FILENO;
+use libc::STDOUT_FILENO;
+
+// Writes a number and the byte behind it.
+fn say(n: u64, behind: &[u8]) {
+    io::print_decimal(STDOUT_FILENO, n);
+    io::write_all(STDOUT_FILENO, behind);
+}
+
+// Writes the six numbers of an answer.
+fn say_answer(a: Answer) {
+    say(a.verdict, b"\t");
+    say(a.line, b"\t");
+    say(a.index, b"\t");
+    say(a.products, b"\t");
+    say(a.polynomials, b"\t");
+    say(a.terms, b"\n");
+}
+
+fn main() {
+    let mut text = [0u8; 65537];
+    let n = io::read_full(STDIN_FILENO, &mut text);
+    if limits::HOST_TEXT_BYTES < n {
+        say_answer(unread(limits::LONGTEXT));
+        return;
+    }
+    let mut pool = [0u64; 8000];
+    let mut scratch = [0u64; 6560];
+    say_answer(checker::check(&text[..n], &mut pool, &mut scratch));
+}
