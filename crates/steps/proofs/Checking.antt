@@ -1,20 +1,20 @@
--- What the checks of an ext line and of a lin line say, and the runs that they compare. Assumes nothing.
+-- What the checks of an ext line and of a lin line say. Assumes nothing.
 use mathlib.Core.Path.{_≡_, refl, sym, ap, ap₂, subst, _∙_}
 use mathlib.Core.Bool.{Bool, true, false, not, cond}
 use mathlib.Core.List.{List, [], map}
 use Prim.Native.Nat.{ℕ, _-_, _*_, _^_, _≤_, _<_}
 use native.Mathlib.Omega.{arith}
 use lib.Bits.{bitOr}
-use lib.ListN.{length, take, drop}
+use lib.ListN.{length, drop}
 use borrow.Author.Tests.{lt-ltb, le-ltb}
 use borrow.Rule.Slice.PartMut.{putMid}
 use Rattle.ground.specs.Lists.{every}
 use Rattle.ground.specs.Parts.{part, Within}
-use Rattle.ground.proofs.Parts.{drop-more, part-rest}
-use Rattle.limits.specs.Limits.{greatestRing, fieldTerms, lineProducts, termWords}
+use Rattle.ground.proofs.Parts.{drop-more}
+use Rattle.limits.specs.Limits.{greatestRing, fieldTerms, lineProducts}
 use Rattle.limits.specs.Verdicts.{MISSING, SEEN, PRODUCTS, MISMATCH, NOTBIT}
 use Rattle.algebra.specs.Sets.{has}
-use Rattle.algebra.specs.Polynomial.{Poly, vars, equal, reduce, product, extension}
+use Rattle.algebra.specs.Polynomial.{vars, equal, reduce, product, extension}
 use Rattle.algebra.proofs.Unions.{or-assoc}
 use Rattle.words.specs.Words.{number}
 use Rattle.terms.specs.Terms.{decode, Leaves}
@@ -30,11 +30,6 @@ use Rattle.pairs.specs.Pairs.{productsOf, Summed}
 use Rattle.steps.specs.declared.check.Checked.{Checked}
 use Rattle.steps.specs.Parts.{sums, extends}
 use Rattle.steps.specs.Checks.{Extends, Sums}
-
--- ---- runs
--- one from a on, and one before a
-pub behind-equal : (n m a : ℕ) (s : List ℕ) → m * termWords ≤ a → equal (decode n (part a (length s - a) s)) (decode m (take a s)) ≡ equal (decode n (drop a s)) (decode m s)
-behind-equal n m a s h = ap₂ (λ (w : List ℕ) (p : Poly). equal (decode n w) p) (part-rest a s) (decode-part m 0 a s h)
 
 -- the m terms before the stated region were reduced, and y came back
 module _ (k n m left : ℕ) (s y : List ℕ) (long : statedAt ≤ length s) (few : m ≤ lineProducts)

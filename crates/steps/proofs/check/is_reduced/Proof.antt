@@ -19,8 +19,8 @@ reduce-requires c κs =
     let s = c .before .before .args .scratch .now in
     (omega (arith, length-take-le statedAt s (omega arith)), omega arith, omega arith)
 
-is-front-requires : tie.Need-is-front-requires
-is-front-requires c κs = search needs
+same-runs-requires : tie.Need-same-runs-requires
+same-runs-requires c κs = search needs
 
 same-length : tie.Need-same-length
 same-length c = search needs
@@ -29,7 +29,7 @@ returns : tie.Need-returns
 returns c =
     let r = c .before .before .before .before .reduce in
     let a = c .before .before .before .before .before .before .before .args in (
-      c .is-front .ensures ∙ front-reduced (a .k) (a .n) (a .m) (r .result) (a .scratch .now) (r .last .0) (omega arith) (omega arith) (r .ensures),
+      c .same-runs .ensures ∙ front-reduced (a .k) (a .n) (a .m) (r .result) (a .scratch .now) (r .last .0) (omega arith) (omega arith) (r .ensures),
       front-within (a .k) (a .n) (a .m) (r .result) (a .scratch .now) (r .last .0) (omega arith) (omega arith) (r .ensures),
     )
 
@@ -40,6 +40,6 @@ is-reduced-spec =
     slice-relend-prefix-reduce
     slice-aggregate-reduce
     reduce-requires
-    is-front-requires
+    same-runs-requires
     same-length
     returns)
