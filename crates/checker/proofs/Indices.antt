@@ -1,24 +1,24 @@
 -- The index of a refused line: where it is read, and that it is in range wherever it is reported. Assumes nothing.
 use mathlib.Core.Path.{_≡_, refl, sym, ap, subst, _∙_}
-use mathlib.Core.Bool.{Bool, true, false, _&&_, not, cond}
+use mathlib.Core.Bool.{Bool, true, false, _&&_, cond}
 use mathlib.Core.Logic.{_⊎_, inl, inr}
 use mathlib.Core.List.{List, []}
-use Prim.Native.Nat.{ℕ, _+_, _≤_, _<_}
+use Prim.Native.Nat.{ℕ, _+_, _≤_}
 use native.Mathlib.Omega.{arith}
 use lib.Dec.{eqb, leb, ltb}
 use lib.ListN.{length, drop}
 use borrow.Author.Tests.{leb-true, le-leb, lt-ltb}
 use Rattle.ground.proofs.Tests.{split, and-left, and-right, by-cond}
 use Rattle.limits.specs.Limits.{lineBytes}
-use Rattle.limits.specs.Verdicts.{LONGLINE, NUMBER, TERMS}
+use Rattle.limits.specs.Verdicts.{TERMS}
 use Rattle.paper.specs.Verdict.{first}
 use Rattle.paper.specs.Text.{Bytes, Line}
-use Rattle.paper.specs.Reader.{Read, got, stuck}
-use Rattle.paper.specs.Statement.{Written, Pair, Statement, ring, input, goal, lin, del, ext}
+use Rattle.paper.specs.Reader.{Read, got}
+use Rattle.paper.specs.Statement.{Statement, ring, input, goal, lin, del, ext}
 use Rattle.paper.specs.Grammar.{decimal, statement}
 use Rattle.paper.specs.Meaning.{isIndex, isVariable, inRange, numbersInRange}
 use Rattle.paper.specs.State as paper
-use Rattle.paper.specs.Rules.{rules, after}
+use Rattle.paper.specs.Rules.{rules}
 use Rattle.paper.specs.Answer.{Outcome, stands, refused, indexOf, judge, judgeRead, judgeLine}
 use Rattle.paper.proofs.Steps.{caseOf}
 use Rattle.reader.specs.declared.line.Kind.{Kind}

@@ -4,12 +4,11 @@ use mathlib.Core.Bool.{Bool, true, false, not, cond}
 use mathlib.Core.List.{List, []}
 use Prim.Native.Nat.{ℕ, _≤_, _<_}
 use native.Mathlib.Omega.{arith}
-use lib.Dec.{eqb, leb, ltb}
 use lib.ListN.{length}
-use borrow.Author.Tests.{ne-eqb, lt-leb, not-false}
+use borrow.Author.Tests.{ne-eqb, lt-leb}
 use Rattle.ground.specs.Lists.{any}
 use Rattle.limits.specs.Limits.{lineBytes}
-use Rattle.limits.specs.Verdicts.{LONGLINE, FORM, NUMBER, TERMS, ACCEPTED}
+use Rattle.limits.specs.Verdicts.{NUMBER, TERMS, ACCEPTED}
 use Rattle.paper.specs.Verdict.{first}
 use Rattle.paper.specs.Text.{Bytes, Line}
 use Rattle.paper.specs.Reader.{Read, got, stuck}
@@ -17,8 +16,8 @@ use Rattle.paper.specs.Statement.{Statement, fields}
 use Rattle.paper.specs.Grammar.{kinds, oneOf, stopShort, statement}
 use Rattle.paper.specs.Meaning.{numbersInRange, tooManyTerms}
 use Rattle.paper.specs.State as paper
-use Rattle.paper.specs.Rules.{rules, after}
-use Rattle.paper.specs.Answer.{stands, refused, indexOf, judge, judgeRead, judgeLine}
+use Rattle.paper.specs.Rules.{rules}
+use Rattle.paper.specs.Answer.{stands, refused, judge, judgeLine}
 use Rattle.paper.proofs.Steps.{caseOf}
 use Rattle.paper.proofs.Judging.{judge-stands}
 use Rattle.paper.proofs.Running.{line-long, line-stuck, line-read}
@@ -29,7 +28,7 @@ use Rattle.reader.specs.Lines.{Stands, Halts, LineIs}
 use Rattle.steps.specs.declared.state.State.{State}
 use Rattle.steps.specs.declared.state.Step.{Step}
 use Rattle.steps.specs.State.{stateOf}
-use Rattle.steps.specs.Steps.{Says, Stepped, Does}
+use Rattle.steps.specs.Steps.{Says, Does}
 use Rattle.checker.specs.Checked.{indexOfRead, LineJudged}
 
 abbrev lineOf : Bytes → Bool → Line

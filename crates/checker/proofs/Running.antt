@@ -1,31 +1,29 @@
 -- A text that is run line by line: what holds before each line, and the answer. Assumes nothing.
 use mathlib.Core.Path.{_≡_, refl, sym, ap, ap₂, subst, _∙_}
-use mathlib.Core.Bool.{Bool, true, false, not, cond}
-use mathlib.Core.List.{List, [], _∷_}
+use mathlib.Core.Bool.{Bool, true, false}
+use mathlib.Core.List.{List, _∷_}
 use Prim.Native.Nat.{ℕ, suc, _+_, _-_, _*_, _≤_, _<_}
 use native.Mathlib.Numerals.{add-one}
 use native.Mathlib.Omega.{arith}
-use lib.Dec.{eqb, ltb}
+use lib.Dec.{ltb}
 use lib.ListN.{length, drop, drop-of-length-le}
 use borrow.Author.Tests.{eq-eqb, ne-eqb, ltb-true, ltb-false}
 use Rattle.limits.specs.Limits.{textBytes, mostPoolTerms, termWords, leastScratch}
 use Rattle.paper.specs.Text.{Bytes, Line, lines}
 use Rattle.paper.specs.Grammar.{statement}
 use Rattle.paper.specs.State as paper
-use Rattle.paper.specs.State.{Store, modulo, storedTerms, start}
+use Rattle.paper.specs.State.{start}
 use Rattle.paper.specs.Answer as answers
 use Rattle.paper.proofs.Running.{run-stands, run-refused}
-use Rattle.words.specs.Words.{number}
 use Rattle.reader.specs.Places.{part}
 use Rattle.reader.specs.Search.{LineEnd}
-use Rattle.table.specs.Table.{storeOf, Packed}
+use Rattle.table.specs.Table.{Packed}
 use Rattle.table.proofs.Laws.{store-length, store-terms}
 use Rattle.steps.specs.declared.state.State.{State}
 use Rattle.steps.specs.declared.state.Step.{Step}
 use Rattle.steps.specs.State.{stateOf, Ready, Fresh}
 use Rattle.steps.specs.Steps.{Room}
-use Rattle.checker.specs.declared.answer.Answer.{Answer}
-use Rattle.checker.specs.Checked.{indexOfRead, LineJudged, answerOf, Ran}
+use Rattle.checker.specs.Checked.{indexOfRead, LineJudged}
 
 -- ---- answers
 counts : {v n i p m t k l : ℕ} → m ≡ k → t ≡ l → _≡_ {A = answers.Answer} (record { verdict = v; line = n; index = i; products = p; polynomials = m; terms = t }) (record { verdict = v; line = n; index = i; products = p; polynomials = k; terms = l })

@@ -19,11 +19,11 @@ pub struct Answer {
 }
 
 // Nothing was read.
-pub fn unread(verdict: u64) -> Answer
-    ensures { λ r. ⌜ answerOf r ≡ paper.unread verdict ⌝ }
+pub(crate) fn unread(why: u64) -> Answer
+    ensures { λ r. ⌜ answerOf r ≡ paper.unread why ⌝ }
 {
     Answer {
-        verdict,
+        verdict: why,
         line: 0,
         index: 0,
         products: 0,
@@ -33,7 +33,7 @@ pub fn unread(verdict: u64) -> Answer
 }
 
 // The answer with the counts of this state.
-pub fn report(state: State, verdict: u64, line: u64, index: u64) -> Answer
+pub(crate) fn report(state: State, verdict: u64, line: u64, index: u64) -> Answer
     requires { ⌜ Packed (state .table) ⌝ }
     ensures { λ r. ⌜ ((pool scratch : List ℕ) → answerOf r ≡ paper.report (stateOf state pool scratch) verdict line index) ⌝ }
 {
@@ -48,7 +48,7 @@ pub fn report(state: State, verdict: u64, line: u64, index: u64) -> Answer
 }
 
 // The answer behind the last line.
-pub fn ending(state: State) -> Answer
+pub(crate) fn ending(state: State) -> Answer
     requires { ⌜ Packed (state .table) ⌝ }
     ensures { λ r. ⌜ ((pool scratch : List ℕ) → answerOf r ≡ paper.ending (stateOf state pool scratch) (state .lines)) ⌝ }
 {

@@ -45,7 +45,7 @@ fn step(
 }
 
 // Judges a line, whose byte 10 is taken off.
-pub fn judge_line(
+pub(crate) fn judge_line(
     state: State,
     line: &[u8],
     ended: bool,
@@ -97,7 +97,7 @@ fn index_of(line: &[u8], kind: Kind) -> u64
 }
 
 // The index that a line refused with v reports.
-pub fn refused_index(line: &[u8], ended: bool, v: u64) -> u64
+pub(crate) fn refused_index(line: &[u8], ended: bool, v: u64) -> u64
     requires { ⌜ ((st : Statement) → statement (record { content = now line; ended = ended }) ≡ got st [] → TERMS ≤ v → numbersInRange st ≡ true) ⌝ }
     ensures { λ r. ⌜ r ≡ indexOfRead v (statement (record { content = now (line .entry); ended = ended })) ⌝ }
 {

@@ -1,11 +1,7 @@
 // A whole text, line by line.
-ghost use mathlib.Core.Path.{_≡_};
 ghost use Prim.Native.Nat.{_*_, _≤_};
 ghost use lib.ListN.{length};
 ghost use Rattle.limits.specs.Limits.{textBytes, mostPoolTerms, termWords, leastScratch};
-ghost use Rattle.paper.specs.Text.{lines};
-ghost use Rattle.paper.specs.State.{start};
-ghost use Rattle.paper.specs.Answer as paper;
 ghost use Rattle.checker.specs.Checked.{Ran};
 use super::answer::Answer;
 use super::answer::ending;
@@ -16,7 +12,7 @@ use reader::find::line_end;
 use steps::state::State;
 
 // Judges the lines of a text one by one.
-pub fn run(text: &[u8], pool: &mut [u64], scratch: &mut [u64], capacity: usize) -> Answer
+pub(crate) fn run(text: &[u8], pool: &mut [u64], scratch: &mut [u64], capacity: usize) -> Answer
     requires { ⌜
         (length (now text) ≤ textBytes) × (capacity * termWords ≤ length (now pool)) × (capacity ≤ mostPoolTerms)
         × (leastScratch ≤ length (now scratch))

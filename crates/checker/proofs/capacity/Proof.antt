@@ -3,14 +3,10 @@ use native.Mathlib.Omega.{arith}
 use Rattle.checker.proofs.Checking.{capacity-most, capacity-all}
 use Rattle.checker.proofs.capacity.Statement.{statement}
 use Rattle.checker.proofs.capacity.Tie as tie
-use Rattle.checker.proofs.capacity.Reads as reads
-use Rattle.checker.proofs.capacity.Lts as lts
 
--- src/lib.rt:20:9
 returns : tie.Need-returns
 returns c = capacity-most (c .before .args .words) (omega arith)
 
--- src/lib.rt:15:1
 returns-2 : tie.Need-returns-2
 returns-2 c = capacity-all (c .before .args .words) (omega arith)
 

@@ -4,65 +4,46 @@ use Rattle.checker.proofs.Checking.{capacity-words, capacity-fits, chec
 use borrow.Author.Needs.{needs}
 use Rattle.checker.proofs.check.Statement.{statement}
 use Rattle.checker.proofs.check.Tie as tie
-use Rattle.checker.proofs.check.Reads as reads
-use Rattle.checker.proofs.check.Lts as lts
-use Rattle.checker.proofs.answer.unread.Reads as unread-reads
-use Rattle.checker.proofs.capacity.Reads as capacity-reads
-use Rattle.checker.proofs.run.run.Reads as run-reads
-use Rattle.table.proofs.zero.Reads as zero-reads
 
--- src/lib.rt:30:9
 unread-requires : tie.Need-unread-requires
 unread-requires c κs = search needs
 
--- src/lib.rt:30:9
 returns : tie.Need-returns
 returns c = checked-pool (c .before .if1 .taken) (c .unread .ensures)
 
--- src/lib.rt:33:9
 unread-requires-2 : tie.Need-unread-requires-2
 unread-requires-2 c κs = search needs
 
--- src/lib.rt:33:9
 returns-2 : tie.Need-returns-2
 returns-2 c = checked-scratch (c .before .before .if1 .left) (c .before .if2 .taken) (c .unread2 .ensures)
 
--- src/lib.rt:36:9
 unread-requires-3 : tie.Need-unread-requires-3
 unread-requires-3 c κs = search needs
 
--- src/lib.rt:36:9
 returns-3 : tie.Need-returns-3
 returns-3 c = checked-text (c .before .before .before .if1 .left) (c .before .before .if2 .left) (c .before .if3 .taken) (c .unread3 .ensures)
 
--- src/lib.rt:38:9
 capacity-requires : tie.Need-capacity-requires
 capacity-requires c κs = search needs
 
--- src/lib.rt:39:9
 run-requires : tie.Need-run-requires
 run-requires c κs =
     let n = length (c .before .before .before .before .before .before .before .before .before .args .pool .now) in
     let e = c .before .before .capacity .ensures in
     (c .before .before .before .if3 .left, capacity-words n e, capacity-fits n e, c .before .before .before .before .if2 .left)
 
--- src/lib.rt:40:5
 zero-requires : tie.Need-zero-requires
 zero-requires c κs = search needs
 
--- src/lib.rt:41:5
 zero-requires-2 : tie.Need-zero-requires-2
 zero-requires-2 c κs = search needs
 
--- src/lib.rt:26:1
 same-length : tie.Need-same-length
 same-length c = search needs
 
--- src/lib.rt:26:1
 same-length-2 : tie.Need-same-length-2
 same-length-2 c = search needs
 
--- src/lib.rt:26:1
 returns-4 : tie.Need-returns-4
 returns-4 c =
     checked-run (c .before .before .before .before .before .before .before .before .before .before .before .before .before .before .before .before .before .before .if1 .left) (c .before .before .before .before .before .before .before .before .before .before .before .before .before .before .before .before .before .if2 .left) (c .before .before .before .before .before .before .before .before .before .before .before .before .before .before .before .before .if3 .left)

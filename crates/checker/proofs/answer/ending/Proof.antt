@@ -4,35 +4,26 @@ use Rattle.checker.proofs.Running.{ends-without, ends-short, ends-well}
 use borrow.Author.Needs.{needs}
 use Rattle.checker.proofs.answer.ending.Statement.{statement}
 use Rattle.checker.proofs.answer.ending.Tie as tie
-use Rattle.checker.proofs.answer.ending.Reads as reads
-use Rattle.checker.proofs.answer.ending.Lts as lts
-use Rattle.checker.proofs.answer.report.Reads as report-reads
 
--- src/answer.rt:62:9
 report-requires : tie.Need-report-requires
 report-requires c κs = search needs
 
--- src/answer.rt:62:9
 returns : tie.Need-returns
 returns c =
     let s = c .before .before .before .args .state in
     λ pool scratch. ends-without (stateOf s pool scratch) (s .lines) (c .before .if1 .taken) (c .report .ensures pool scratch)
 
--- src/answer.rt:65:9
 report-requires-2 : tie.Need-report-requires-2
 report-requires-2 c κs = search needs
 
--- src/answer.rt:65:9
 returns-2 : tie.Need-returns-2
 returns-2 c =
     let s = c .before .before .before .before .args .state in
     λ pool scratch. ends-well (stateOf s pool scratch) (s .lines) (c .before .before .if1 .left) (c .before .if2 .taken) (c .report2 .ensures pool scratch)
 
--- src/answer.rt:67:5
 report-requires-3 : tie.Need-report-requires-3
 report-requires-3 c κs = search needs
 
--- src/answer.rt:54:1
 returns-3 : tie.Need-returns-3
 returns-3 c =
     let s = c .before .before .before .before .args .state in

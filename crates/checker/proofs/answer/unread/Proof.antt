@@ -3,10 +3,7 @@ use mathlib.Core.Path.{refl}
 use Rattle.paper.specs.Answer.{unread}
 use Rattle.checker.proofs.answer.unread.Statement.{statement}
 use Rattle.checker.proofs.answer.unread.Tie as tie
-use Rattle.checker.proofs.answer.unread.Reads as reads
-use Rattle.checker.proofs.answer.unread.Lts as lts
 
--- src/answer.rt:23:1
 returns : tie.Need-returns
 unfolding unread
 returns c = refl

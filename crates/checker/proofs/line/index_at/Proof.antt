@@ -7,19 +7,13 @@ use Rattle.fields.proofs.Taking.{same-value, good-decimal}
 use borrow.Author.Needs.{needs}
 use Rattle.checker.proofs.line.index_at.Statement.{statement}
 use Rattle.checker.proofs.line.index_at.Tie as tie
-use Rattle.checker.proofs.line.index_at.Reads as reads
-use Rattle.checker.proofs.line.index_at.Lts as lts
-use Rattle.reader.proofs.number.decimal_at.Reads as decimal-at-reads
 
--- src/line.rt:68:9
 decimal-at-requires : tie.Need-decimal-at-requires
 decimal-at-requires c κs = search needs
 
--- src/line.rt:69:24
 enum-known-d : tie.Need-enum-known-d
 enum-known-d c = search needs
 
--- src/line.rt:70:9
 returns : tie.Need-returns
 returns c =
     let b = c .before .before .before in
@@ -27,7 +21,6 @@ returns c =
     absurd (good-decimal (b .args .line .now) (b .args .at) (d .result) (d .ensures) (b .pre)
     (λ v e q. ⊎-elim (λ p. absurd (let z : ⊥ = omega arith in z)) (λ p. absurd (let z : ⊥ = omega arith in z)) (rw q at (c .match .keys2))))
 
--- src/line.rt:64:1
 returns-2 : tie.Need-returns-2
 returns-2 c =
     let b = c .before .before .before .before .before in

@@ -6,36 +6,25 @@ use Rattle.checker.proofs.Indices.{stands-ranged, reported, unreported}
 use borrow.Author.Needs.{needs}
 use Rattle.checker.proofs.line.refused_index.Statement.{statement}
 use Rattle.checker.proofs.line.refused_index.Tie as tie
-use Rattle.checker.proofs.line.refused_index.Reads as reads
-use Rattle.checker.proofs.line.refused_index.Lts as lts
-use Rattle.checker.proofs.line.index_of.Reads as index-of-reads
-use Rattle.reader.proofs.line.scan_line.Reads as scan-line-reads
 
--- src/line.rt:98:9
 returns : tie.Need-returns
 returns c = let a = c .before .before .args in sym (no-index (a .v) (read (record { content = a .line .now; ended = a .ended })) (c .if1 .taken))
 
--- src/line.rt:100:9
 scan-line-requires : tie.Need-scan-line-requires
 scan-line-requires c κs = search needs
 
--- src/line.rt:101:24
 enum-known-scan : tie.Need-enum-known-scan
 enum-known-scan c = search needs
 
--- src/line.rt:102:9
 enum-told : tie.Need-enum-told
 enum-told c = search needs
 
--- src/line.rt:102:9
 returns-2 : tie.Need-returns-2
 returns-2 c = unreported (c .before .before .before .before .before .args .v) (halted (c .enum-told .given .1) (c .before .before .scan-line .ensures))
 
--- src/line.rt:104:5
 index-of-requires : tie.Need-index-of-requires
 index-of-requires c κs = stands-ranged (scanned (c .before .scan .given .1) (c .before .before .before .scan-line .ensures)) (c .before .before .before .before .if1 .left) (c .before .before .before .before .before .before .pre)
 
--- src/line.rt:91:1
 returns-3 : tie.Need-returns-3
 returns-3 c = reported (scanned (c .before .before .scan .given .1) (c .before .before .before .before .scan-line .ensures)) (c .before .before .before .before .before .if1 .left) (c .index-of .ensures)
 

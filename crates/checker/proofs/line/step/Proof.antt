@@ -3,120 +3,85 @@ use Rattle.checker.proofs.Judging.{says-as}
 use borrow.Author.Needs.{needs}
 use Rattle.checker.proofs.line.step.Statement.{statement}
 use Rattle.checker.proofs.line.step.Tie as tie
-use Rattle.checker.proofs.line.step.Reads as reads
-use Rattle.checker.proofs.line.step.Lts as lts
-use Rattle.steps.proofs.state.State.step_del.Reads as step-del-reads
-use Rattle.steps.proofs.state.State.step_ext.Reads as step-ext-reads
-use Rattle.steps.proofs.state.State.step_goal.Reads as step-goal-reads
-use Rattle.steps.proofs.state.State.step_input.Reads as step-input-reads
-use Rattle.steps.proofs.state.State.step_lin.Reads as step-lin-reads
-use Rattle.steps.proofs.state.State.step_ring.Reads as step-ring-reads
 
--- src/line.rt:34:23
 enum-told : tie.Need-enum-told
 enum-told c = search needs
 
--- src/line.rt:34:23
 step-ring-requires : tie.Need-step-ring-requires
 step-ring-requires c κs = says-as (c .enum-told .given .1) (c .before .before .before .before .before .pre .0)
 
--- src/line.rt:35:47
 enum-told-2 : tie.Need-enum-told-2
 enum-told-2 c = search needs
 
--- src/line.rt:35:24
 step-input-requires : tie.Need-step-input-requires
 step-input-requires c κs = let p = c .before .before .before .before .before .before .before .pre in (says-as (c .before .before .enum-told2 .given .1) (p .0), p .1)
 
--- src/line.rt:36:45
 enum-told-3 : tie.Need-enum-told-3
 enum-told-3 c = search needs
 
--- src/line.rt:36:23
 step-goal-requires : tie.Need-step-goal-requires
 step-goal-requires c κs = let s = c .before .before .before .before .before .before .before in (says-as (c .before .before .enum-told3 .given .1) (s .pre .0), (s .args .capacity, s .pre .1))
 
--- src/line.rt:37:43
 enum-told-4 : tie.Need-enum-told-4
 enum-told-4 c = search needs
 
--- src/line.rt:37:22
 step-lin-requires : tie.Need-step-lin-requires
 step-lin-requires c κs = let p = c .before .before .before .before .before .before .before .pre in (says-as (c .before .before .enum-told4 .given .1) (p .0), p .1)
 
--- src/line.rt:38:43
 enum-told-5 : tie.Need-enum-told-5
 enum-told-5 c = search needs
 
--- src/line.rt:38:22
 step-del-requires : tie.Need-step-del-requires
 step-del-requires c κs = let s = c .before .before .before .before .before .before in (says-as (c .before .enum-told5 .given .1) (s .pre .0), (s .args .capacity, s .args .scratch .now, s .pre .1))
 
--- src/line.rt:39:43
 enum-told-6 : tie.Need-enum-told-6
 enum-told-6 c = search needs
 
--- src/line.rt:39:22
 step-ext-requires : tie.Need-step-ext-requires
 step-ext-requires c κs = let p = c .before .before .before .before .before .before .before .pre in (says-as (c .before .before .enum-told6 .given .1) (p .0), p .1)
 
--- src/line.rt:27:1
 returns : tie.Need-returns
 returns c = let s = c .before .before .before .before .before .before in c .step-ring .ensures (s .args .capacity) (s .args .pool .now) (s .args .scratch .now) (s .pre .1)
 
--- src/line.rt:27:1
 same-length : tie.Need-same-length
 same-length c = search needs
 
--- src/line.rt:27:1
 same-length-2 : tie.Need-same-length-2
 same-length-2 c = search needs
 
--- src/line.rt:27:1
 returns-2 : tie.Need-returns-2
 returns-2 c = search needs
 
--- src/line.rt:27:1
 same-length-3 : tie.Need-same-length-3
 same-length-3 c = search needs
 
--- src/line.rt:27:1
 same-length-4 : tie.Need-same-length-4
 same-length-4 c = search needs
 
--- src/line.rt:27:1
 returns-3 : tie.Need-returns-3
 returns-3 c = let s = c .before .before .before .before .before .before .before .before .before .before in c .before .before .step-goal .ensures (s .args .capacity) (s .pre .1)
 
--- src/line.rt:27:1
 same-length-5 : tie.Need-same-length-5
 same-length-5 c = search needs
 
--- src/line.rt:27:1
 same-length-6 : tie.Need-same-length-6
 same-length-6 c = search needs
 
--- src/line.rt:27:1
 returns-4 : tie.Need-returns-4
 returns-4 c = search needs
 
--- src/line.rt:27:1
 same-length-7 : tie.Need-same-length-7
 same-length-7 c = search needs
 
--- src/line.rt:27:1
 returns-5 : tie.Need-returns-5
 returns-5 c = let s = c .before .before .before .before .before .before .before .before .before in c .before .before .step-del .ensures (s .args .capacity) (s .args .scratch .now) (s .pre .1)
 
--- src/line.rt:27:1
 same-length-8 : tie.Need-same-length-8
 same-length-8 c = search needs
 
--- src/line.rt:27:1
 same-length-9 : tie.Need-same-length-9
 same-length-9 c = search needs
 
--- src/line.rt:27:1
 returns-6 : tie.Need-returns-6
 returns-6 c = search needs
 

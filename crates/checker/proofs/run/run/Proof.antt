@@ -1,6 +1,6 @@
 -- `checker::run::run` meets its contract. The loop's invariant: the lines from at on give the answer of the text, no more lines stood
 -- than bytes were read, and the rooms are as long as they were. The measure is what is left of the text, and one. Assumes nothing.
-use mathlib.Core.Path.{_≡_, refl, ap, _∙_}
+use mathlib.Core.Path.{_≡_, refl, _∙_}
 use Prim.Native.Nat.{_+_, _-_}
 use native.Mathlib.Omega.{arith}
 use lib.ListN.{length}
@@ -9,14 +9,6 @@ use Rattle.checker.proofs.Indices.{refused-ranged}
 use Rattle.checker.proofs.Running.{Onward, onward-start, onward-end, onward-room, onward-more, onward-refused, onward-packed}
 use Rattle.checker.proofs.run.run.Statement.{statement}
 use Rattle.checker.proofs.run.run.Tie as tie
-use Rattle.checker.proofs.run.run.Reads as reads
-use Rattle.checker.proofs.run.run.Lts as lts
-use Rattle.checker.proofs.answer.ending.Reads as ending-reads
-use Rattle.checker.proofs.answer.report.Reads as report-reads
-use Rattle.checker.proofs.line.judge_line.Reads as judge-line-reads
-use Rattle.checker.proofs.line.refused_index.Reads as refused-index-reads
-use Rattle.reader.proofs.find.line_end.Reads as line-end-reads
-use Rattle.steps.proofs.state.State.new.Reads as new-reads
 
 abbrev Inv-loop : tie.InvT-loop
 Inv-loop text pool₀ scratch₀ capacity state₀ at₀ pool scratch state at = Onward capacity text state at pool scratch × (length pool ≡ length pool₀) × (length scratch ≡ length scratch₀)
@@ -24,147 +16,112 @@ Inv-loop text pool₀ scratch₀ capacity state₀ at₀ pool scratch state at =
 abbrev μ-loop : tie.MeasureT-loop
 μ-loop text pool₀ scratch₀ capacity state₀ at₀ pool scratch state at = length text + 1 - at
 
--- src/run.rt:29:9
 new-requires : tie.Need-new-requires Inv-loop μ-loop
 new-requires c κs = search needs
 
--- src/run.rt:31:5
 loop-holds : tie.Need-loop-holds Inv-loop μ-loop
 loop-holds c = let p = c .before .before .before .before .pre in (onward-start (c .new .ensures) (p .1) (p .2) (p .3), refl, refl)
 
--- src/run.rt:32:13
 line-end-requires : tie.Need-line-end-requires Inv-loop μ-loop
 line-end-requires c κs = search needs
 
--- src/run.rt:34:35
 sub-judge-line : tie.Need-sub-judge-line Inv-loop μ-loop
 sub-judge-line c = let h = c .line-end .ensures .onward in omega arith
 
--- src/run.rt:34:35
 part-judge-line-start : tie.Need-part-judge-line-start Inv-loop μ-loop
 part-judge-line-start c = let h = c .line-end .ensures .onward in omega arith
 
--- src/run.rt:34:35
 part-judge-line-end : tie.Need-part-judge-line-end Inv-loop μ-loop
 part-judge-line-end c = let h = c .line-end .ensures .inside in omega arith
 
--- src/run.rt:34:13
 judge-line-requires : tie.Need-judge-line-requires Inv-loop μ-loop
 judge-line-requires c κs = onward-room (c .before .before .before .before .before .loop .inv .0) (c .before .before .before .before .loop-test .taken) (c .before .before .before .before .before .before .before .before .before .before .pre .0)
 
--- src/run.rt:38:35
 sub-refused-index : tie.Need-sub-refused-index Inv-loop μ-loop
 sub-refused-index c = let h = c .before .before .before .before .before .before .before .before .before .before .line-end .ensures .onward in omega arith
 
--- src/run.rt:38:35
 part-refused-index-start : tie.Need-part-refused-index-start Inv-loop μ-loop
 part-refused-index-start c = let h = c .before .before .before .before .before .before .before .before .before .before .line-end .ensures .onward in omega arith
 
--- src/run.rt:38:35
 part-refused-index-end : tie.Need-part-refused-index-end Inv-loop μ-loop
 part-refused-index-end c = let h = c .before .before .before .before .before .before .before .before .before .before .line-end .ensures .inside in omega arith
 
--- src/run.rt:38:17
 refused-index-requires : tie.Need-refused-index-requires Inv-loop μ-loop
 refused-index-requires c κs = refused-ranged (c .before .before .before .before .before .before .before .judge-line .ensures) (c .before .if1 .taken)
 
--- src/run.rt:39:21
 add-n : tie.Need-add-n Inv-loop μ-loop
 add-n c =
-    let j = c .before .before .before .before .before .before .before .before .before .judge-line .ensures in
-    let e = c .before .before .before .before .before .before .before .before .before .before .before .before .before .line-end .ensures in
-    let l = c .before .before .before .before .before .before .before .before .before .before .before .before .before .before .loop-test .taken in
-    let o = c .before .before .before .before .before .before .before .before .before .before .before .before .before .before .before .loop .inv in
-    let p = c .before .before .before .before .before .before .before .before .before .before .before .before .before .before .before .before .before .before .before .before .pre .0 in
+    let d = c .before .before .before .before .before .before .before .before .before in
+    let w = d .before .before .before .before in
+    let o = w .before .before .loop .inv in
+    let p = w .before .before .before .before .before .before .before .pre .0 in
     let f = o .0 .few in
-    let n = j .lines in
+    let n = d .judge-line .ensures .lines in
     omega arith
 
--- src/run.rt:40:13
 report-requires : tie.Need-report-requires Inv-loop μ-loop
 report-requires c κs =
-    let j = c .before .before .before .before .before .before .before .before .before .judge-line .ensures in
-    let e = c .before .before .before .before .before .before .before .before .before .before .before .before .before .line-end .ensures in
-    let l = c .before .before .before .before .before .before .before .before .before .before .before .before .before .before .loop-test .taken in
-    let o = c .before .before .before .before .before .before .before .before .before .before .before .before .before .before .before .loop .inv in
-    onward-packed (o .0) l e j (c .before .before .before .if1 .taken)
+    let d = c .before .before .before .before .before .before .before .before .before in
+    let w = d .before .before .before .before in
+    let o = w .before .before .loop .inv in
+    onward-packed (o .0) (w .before .loop-test .taken) (w .line-end .ensures) (d .judge-line .ensures) (c .before .before .before .if1 .taken)
 
--- src/run.rt:40:13
 same-length : tie.Need-same-length Inv-loop μ-loop
-same-length c = let j = c .before .before .before .before .before .before .before .before .before .before .judge-line .ensures .pool-length in j ∙ c .before .before .before .before .before .before .before .before .before .before .before .before .before .before .before .before .loop .inv .1
+same-length c = let d = c .before .before .before .before .before .before .before .before .before .before in d .judge-line .ensures .pool-length ∙ d .before .before .before .before .before .before .loop .inv .1
 
--- src/run.rt:40:13
 same-length-2 : tie.Need-same-length-2 Inv-loop μ-loop
-same-length-2 c = let j = c .before .before .before .before .before .before .before .before .before .before .judge-line .ensures .scratch-length in j ∙ c .before .before .before .before .before .before .before .before .before .before .before .before .before .before .before .before .loop .inv .2
+same-length-2 c = let d = c .before .before .before .before .before .before .before .before .before .before in d .judge-line .ensures .scratch-length ∙ d .before .before .before .before .before .before .loop .inv .2
 
--- src/run.rt:40:13
 returns : tie.Need-returns Inv-loop μ-loop
 returns c =
-    let j = c .before .before .before .before .before .before .before .before .before .before .judge-line .ensures in
-    let e = c .before .before .before .before .before .before .before .before .before .before .before .before .before .before .line-end .ensures in
-    let l = c .before .before .before .before .before .before .before .before .before .before .before .before .before .before .before .loop-test .taken in
-    let o = c .before .before .before .before .before .before .before .before .before .before .before .before .before .before .before .before .loop .inv in
+    let d = c .before .before .before .before .before .before .before .before .before .before in
+    let w = d .before .before .before .before in
+    let o = w .before .before .loop .inv in
     record {
-      answer = onward-refused (o .0) l e j (c .before .before .before .before .if1 .taken) (c .before .before .refused-index .ensures) (c .report .ensures);
-      pool-length = j .pool-length ∙ o .1;
-      scratch-length = j .scratch-length ∙ o .2;
+      answer = onward-refused (o .0) (w .before .loop-test .taken) (w .line-end .ensures) (d .judge-line .ensures) (c .before .before .before .before .if1 .taken) (c .before .before .refused-index .ensures) (c .report .ensures);
+      pool-length = d .judge-line .ensures .pool-length ∙ o .1;
+      scratch-length = d .judge-line .ensures .scratch-length ∙ o .2;
     }
 
--- src/run.rt:42:9
 add-next : tie.Need-add-next Inv-loop μ-loop
 add-next c =
-    let j = c .before .before .before .before .before .before .before .judge-line .ensures in
-    let e = c .before .before .before .before .before .before .before .before .before .before .before .line-end .ensures in
-    let l = c .before .before .before .before .before .before .before .before .before .before .before .before .loop-test .taken in
-    let o = c .before .before .before .before .before .before .before .before .before .before .before .before .before .loop .inv in
-    let p = c .before .before .before .before .before .before .before .before .before .before .before .before .before .before .before .before .before .before .pre .0 in
+    let d = c .before .before .before .before .before .before .before in
+    let w = d .before .before .before .before in
+    let o = w .before .before .loop .inv in
+    let p = w .before .before .before .before .before .before .before .pre .0 in
     let f = o .0 .few in
-    let n = j .lines in
+    let n = d .judge-line .ensures .lines in
     omega arith
 
--- src/run.rt:44:14
 add-at : tie.Need-add-at Inv-loop μ-loop
 add-at c =
-    let j = c .before .before .before .before .before .before .before .judge-line .ensures in
-    let e = c .before .before .before .before .before .before .before .before .before .before .before .line-end .ensures in
-    let l = c .before .before .before .before .before .before .before .before .before .before .before .before .loop-test .taken in
-    let o = c .before .before .before .before .before .before .before .before .before .before .before .before .before .loop .inv in
-    let p = c .before .before .before .before .before .before .before .before .before .before .before .before .before .before .before .before .before .before .pre .0 in
-    let i = e .inside in
+    let w = c .before .before .before .before .before .before .before .before .before .before .before in
+    let p = w .before .before .before .before .before .before .before .pre .0 in
+    let i = w .line-end .ensures .inside in
     omega arith
 
--- src/run.rt:31:5
 loop-less : tie.Need-loop-less Inv-loop μ-loop
 loop-less c =
-    let j = c .before .before .before .before .before .before .before .judge-line .ensures in
-    let e = c .before .before .before .before .before .before .before .before .before .before .before .line-end .ensures in
-    let l = c .before .before .before .before .before .before .before .before .before .before .before .before .loop-test .taken in
-    let o = c .before .before .before .before .before .before .before .before .before .before .before .before .before .loop .inv in
-    let h = e .onward in
+    let w = c .before .before .before .before .before .before .before .before .before .before .before in
+    let h = w .line-end .ensures .onward in
     omega arith
 
--- src/run.rt:31:5
 loop-again : tie.Need-loop-again Inv-loop μ-loop
 loop-again c =
-    let j = c .before .before .before .before .before .before .before .judge-line .ensures in
-    let e = c .before .before .before .before .before .before .before .before .before .before .before .line-end .ensures in
-    let l = c .before .before .before .before .before .before .before .before .before .before .before .before .loop-test .taken in
-    let o = c .before .before .before .before .before .before .before .before .before .before .before .before .before .loop .inv in
-    (onward-more (o .0) l e j (c .before .if1 .left), j .pool-length ∙ o .1, j .scratch-length ∙ o .2)
+    let d = c .before .before .before .before .before .before .before in
+    let w = d .before .before .before .before in
+    let o = w .before .before .loop .inv in
+    (onward-more (o .0) (w .before .loop-test .taken) (w .line-end .ensures) (d .judge-line .ensures) (c .before .if1 .left), d .judge-line .ensures .pool-length ∙ o .1, d .judge-line .ensures .scratch-length ∙ o .2)
 
--- src/run.rt:46:5
 ending-requires : tie.Need-ending-requires Inv-loop μ-loop
 ending-requires c κs = c .before .loop .inv .0 .ready .fitting .packed
 
--- src/run.rt:20:1
 same-length-3 : tie.Need-same-length-3 Inv-loop μ-loop
 same-length-3 c = c .before .before .loop .inv .1
 
--- src/run.rt:20:1
 same-length-4 : tie.Need-same-length-4 Inv-loop μ-loop
 same-length-4 c = c .before .before .loop .inv .2
 
--- src/run.rt:20:1
 returns-2 : tie.Need-returns-2 Inv-loop μ-loop
 returns-2 c =
     let o = c .before .before .loop .inv in

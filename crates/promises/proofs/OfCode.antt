@@ -1,0 +1,35 @@
+-- The promises of the code, from the equations of its contract. Assumes nothing.
+use mathlib.Core.Path.{_≡_, sym, ap, _∙_}
+use mathlib.Core.List.{List}
+use Prim.Native.Nat.{ℕ}
+use lib.ListN.{length}
+use Rattle.paper.specs.Answer as paper
+use Rattle.paper.specs.Answer.{roomAfter}
+use Rattle.checker.specs.declared.answer.Answer.{Answer}
+use Rattle.checker.specs.Checked.{answerOf, Checked}
+use Rattle.promises.specs.OfCode.{Decided, CheckedIsSound}
+use Rattle.promises.proofs.Promises.{accepted-is-sound}
+
+-- the six numbers are all there is of an answer
+same-answer : (a b : Answer) → answerOf a ≡ answerOf b → a ≡ b
+same-answer a b e = λ i. record {
+  verdict = e i .verdict;
+  line = e i .line;
+  index = e i .index;
+  products = e i .products;
+  polynomials = e i .polynomials;
+  terms = e i .terms;
+}
+
+same-room : (room : List ℕ) {p r : List ℕ} {v w : ℕ} → v ≡ w → p ≡ roomAfter v room → r ≡ roomAfter w room → p ≡ r
+same-room room e f g = f ∙ ap (λ (x : ℕ). roomAfter x room) e ∙ sym g
+
+pub decided : Decided
+decided text pool scratch a b p q r s c d =
+    let e : answerOf a ≡ answerOf b = c .answer ∙ sym (d .answer) in
+    let v : a .verdict ≡ b .verdict = ap (λ (x : paper.Answer). x .verdict) e in
+    (same-answer a b e, same-room pool v (c .pool-after) (d .pool-after), same-room scratch v (c .scratch-after) (d .scratch-after))
+
+pub checked-is-sound : CheckedIsSound
+checked-is-sound text pool scratch a p q c e =
+    accepted-is-sound text (length pool) (length scratch) (sym (ap (λ (x : paper.Answer). x .verdict) (c .answer)) ∙ e)
