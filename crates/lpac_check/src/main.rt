@@ -1,6 +1,5 @@
 // Reads a text from standard input, checks it, and writes the six numbers of the answer, parted by tabs.
 use checker::answer::Answer;
-use checker::answer::unread;
 use libc::STDIN_FILENO;
 use libc::STDOUT_FILENO;
 
@@ -20,11 +19,23 @@ fn say_answer(a: Answer) {
     say(a.terms, b"\n");
 }
 
+// The answer to a text that is too long to be read.
+fn too_long() -> Answer {
+    Answer {
+        verdict: limits::LONGTEXT,
+        line: 0,
+        index: 0,
+        products: 0,
+        polynomials: 0,
+        terms: 0,
+    }
+}
+
 fn main() {
     let mut text = [0u8; 65537];
     let n = io::read_full(STDIN_FILENO, &mut text);
     if limits::HOST_TEXT_BYTES < n {
-        say_answer(unread(limits::LONGTEXT));
+        say_answer(too_long());
         return;
     }
     let mut pool = [0u64; 8000];
