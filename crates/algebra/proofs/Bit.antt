@@ -9,9 +9,8 @@ use native.Mathlib.Omega.{arith}
 use lib.Pow.{pow-pos}
 use lib.Dec.{eqb}
 use borrow.Author.Tests.{eqb-true, eq-eqb}
-use Rattle.ground.specs.Congruence.{Same}
+use Rattle.ground.proofs.Congruence.{Same, same-mod, same-add, same-refl, same-eq, same-sym, _⊳_}
 use Rattle.ground.proofs.Tests.{and-left, and-right, and-both}
-use Rattle.ground.proofs.Congruence.{same-mod, same-add, same-refl, same-eq, same-sym, _⊳_}
 use Rattle.ground.proofs.Square.{bit-square}
 use Rattle.algebra.specs.Sets.{bit}
 use Rattle.algebra.specs.Polynomial.{Poly, keep, sumAt, value, vars, equal, product, extension}

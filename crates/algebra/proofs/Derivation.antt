@@ -4,11 +4,9 @@ use mathlib.Core.List.{List, [], _∷_, _++_}
 use Prim.Native.Nat.{ℕ, _+_, _^_, _<_}
 use native.Mathlib.Omega.{arith}
 use lib.Bits.{bitOr}
-use Rattle.ground.specs.Congruence.{Same}
-use Rattle.ground.proofs.Congruence.{same-eq, _⊳_}
+use Rattle.ground.proofs.Congruence.{Same, same-eq, _⊳_}
 use Rattle.algebra.specs.Sets.{bit, DifferOnlyAt, Apart}
-use Rattle.algebra.specs.Polynomial.{Poly, value, vars, product, extension}
-use Rattle.algebra.specs.Derivation.{allVars, AllZero, Forced, Derived, none, input, forced, defined}
+use Rattle.algebra.specs.Polynomial.{Poly, value, vars, product, extension, allVars, AllZero, Forced, Derived, none, input, forced, defined}
 use Rattle.algebra.proofs.Sets.{AgreeOn, bit-or, bit-pow, Changed, change, changed-agree, apart-agree, agree-left, agree-right, has-false}
 use Rattle.algebra.proofs.Bit.{value-agree, bit-valued, extension-zero}
 

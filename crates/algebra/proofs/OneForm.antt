@@ -8,12 +8,10 @@ use native.Mathlib.Omega.{arith}
 use lib.Pow.{pow-pos}
 use lib.Dec.{eqb, ltb}
 use borrow.Author.Tests.{eqb-true, eqb-false, ltb-true, ltb-false, lt-ltb, le-ltb}
-use Rattle.ground.specs.Congruence.{Same}
+use Rattle.ground.proofs.Congruence.{Same, same-add, same-cancel, same-refl, same-eq, _⊳_}
 use Rattle.ground.proofs.Tests.{split, bool-ext, and-both, and-left}
-use Rattle.ground.proofs.Congruence.{same-add, same-cancel, same-refl, same-eq, _⊳_}
 use Rattle.algebra.specs.Sets.{holds}
-use Rattle.algebra.specs.Polynomial.{Poly, keep, sumIf, sumAt, coefOf, value, reduce}
-use Rattle.algebra.specs.Reduced.{Below}
+use Rattle.algebra.specs.Polynomial.{Poly, keep, sumIf, sumAt, coefOf, value, reduce, Below}
 use Rattle.algebra.proofs.Sets.{holds-refl, holds-le}
 use Rattle.algebra.proofs.Values.{keep-add, sum-reduce, value-reduce}
 use Rattle.algebra.proofs.Reduced.{is-reduce, reduced-reduce}

@@ -9,11 +9,9 @@ use native.Mathlib.Omega.{arith}
 use lib.Pow.{pow-pos}
 use lib.Dec.{eqb, ltb}
 use borrow.Author.Tests.{eqb-true, eqb-false, eq-eqb, ne-eqb, ltb-true, ltb-false}
-use Rattle.ground.specs.Congruence.{Same}
+use Rattle.ground.proofs.Congruence.{Same, same-sym, same-lt, _⊳_}
 use Rattle.ground.proofs.Tests.{by-cond, split}
-use Rattle.ground.proofs.Congruence.{same-sym, same-lt, _⊳_}
-use Rattle.algebra.specs.Polynomial.{Term, Poly, keep, coefOf, put, insert, reduce}
-use Rattle.algebra.specs.Reduced.{Below, Reduced}
+use Rattle.algebra.specs.Polynomial.{Term, Poly, keep, coefOf, put, insert, reduce, Below, Reduced}
 use Rattle.algebra.proofs.Values.{sum-reduce}
 
 module _ (k : ℕ) where

@@ -5,10 +5,8 @@ use mathlib.Core.List.{[], _∷_}
 use Prim.Native.Nat.{ℕ, suc, _+_, _^_, _≤_}
 use native.Mathlib.Omega.{arith}
 use lib.Dec.{eqb}
-use Rattle.ground.specs.Congruence.{Same}
-use Rattle.ground.proofs.Congruence.{_⊳_}
-use Rattle.algebra.specs.Polynomial.{Poly, sumIf, coefOf, reduce}
-use Rattle.algebra.specs.Reduced.{Below}
+use Rattle.ground.proofs.Congruence.{Same, _⊳_}
+use Rattle.algebra.specs.Polynomial.{Poly, sumIf, coefOf, reduce, Below}
 use Rattle.algebra.proofs.Values.{sum-reduce}
 use Rattle.algebra.proofs.Reduced.{is-reduce, reduced-reduce}
 

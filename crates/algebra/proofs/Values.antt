@@ -7,9 +7,8 @@ use native.Mathlib.Nat.{mul-add, add-mul, mul-zero, zero-mul, zero-mod, zero-add
 use native.Mathlib.Omega.{arith}
 use lib.Dec.{eqb, ltb}
 use borrow.Author.Tests.{eqb-true}
-use Rattle.ground.specs.Congruence.{Same}
+use Rattle.ground.proofs.Congruence.{Same, same-mod, same-add, same-mul, same-refl, same-eq, same-sym, _⊳_}
 use Rattle.ground.proofs.Tests.{by-cond}
-use Rattle.ground.proofs.Congruence.{same-mod, same-add, same-mul, same-refl, same-eq, same-sym, _⊳_}
 use Rattle.algebra.specs.Sets.{holds}
 use Rattle.algebra.specs.Polynomial.{Term, Poly, keep, sumIf, sumAt, value, times, products, put, insert, reduce, sum, product}
 use Rattle.algebra.proofs.Sets.{holds-or}

@@ -1,4 +1,2 @@
 pub mod Sets
 pub mod Polynomial
-pub mod Reduced
-pub mod Derivation

@@ -1,10 +1,11 @@
 -- Polynomials over bits with coefficients modulo 2 ^ k; x * x is x, so a product of terms unites their sets.
 use mathlib.Core.Bool.{Bool, true, false, _&&_, cond}
 use mathlib.Core.List.{List, [], _∷_, _++_}
-use Prim.Native.Nat.{ℕ, _+_, _-_, _*_, _%_, _^_}
+use Prim.Native.Nat.{ℕ, _+_, _-_, _*_, _%_, _^_, _<_}
 use lib.Bits.{bitOr}
 use lib.Dec.{eqb, ltb}
-use Rattle.algebra.specs.Sets.{holds}
+use Rattle.algebra.specs.Sets.{holds, has, Apart}
+use mathlib.Core.Path.{_≡_}
 
 pub record Term : Type 0 where
   pub set : ℕ
@@ -84,3 +85,35 @@ module _ (k : ℕ) where
   -- -v + p
   unfoldable pub extension : ℕ → Poly → Poly
   extension v p = reduce (record { set = 2 ^ v; coef = minusOne } ∷ p)
+
+-- every set below b
+abbrev pub Below : ℕ → Poly → Type 0
+Below b [] = Unit {0}
+Below b (t ∷ p) = (t .set < b) × Below b p
+
+-- reduced at k, and every set below b
+abbrev pub Reduced : ℕ → ℕ → Poly → Type 0
+Reduced k b [] = Unit {0}
+Reduced k b (t ∷ p) = (t .set < b) × (0 < t .coef) × (t .coef < 2 ^ k) × Reduced k (t .set) p
+
+-- every variable that stands in one of them
+unfoldable pub allVars : List Poly → ℕ
+allVars [] = 0
+allVars (p ∷ ps) = bitOr (vars p) (allVars ps)
+
+module _ (k : ℕ) where
+  abbrev pub AllZero : ℕ → List Poly → Type 0
+  AllZero a [] = Unit {0}
+  AllZero a (p ∷ ps) = (value k a p ≡ 0) × AllZero a ps
+
+  -- zero wherever all of ps are
+  pub record Forced (ps : List Poly) (p : Poly) : Type 0 where
+    pub at : (a : ℕ) → AllZero a ps → value k a p ≡ 0
+
+  -- Derived inputs es ps: from the inputs, with definitions for the variables es, the polynomials ps
+  pub data Derived : List Poly → ℕ → List Poly → Type 0 where
+    none : Derived [] 0 []
+    input : {is : List Poly} {es : ℕ} {ps : List Poly} (p : Poly) → Apart es (vars p) → Derived is es ps → Derived (p ∷ is) es (p ∷ ps)
+    forced : {is : List Poly} {es : ℕ} {ps : List Poly} (p : Poly) → Forced ps p → Derived is es ps → Derived is es (p ∷ ps)
+    defined : {is : List Poly} {es : ℕ} {ps : List Poly} (v : ℕ) (p : Poly) → product k p p ≡ p
+        → has (bitOr (vars p) (allVars ps)) v ≡ false → Derived is es ps → Derived is (bitOr (2 ^ v) es) (extension k v p ∷ ps)

@@ -11,14 +11,10 @@ use Rattle.ground.specs.Lists.{every}
 use Rattle.ground.proofs.Tests.{and-left, and-right, by-cond}
 use Rattle.limits.specs.Limits.{textBytes, lineBytes, leastPool, leastScratch, mostPoolTerms, termWords}
 use Rattle.limits.specs.Verdicts.{SHORT, LONGTEXT}
-use Rattle.paper.specs.Verdict.{Row, first}
-use Rattle.paper.specs.Text.{Bytes, Line, lines}
-use Rattle.paper.specs.Reader.{Read, got, stuck}
+use Rattle.paper.specs.Rules.{Row, first, steps, start, rules}
+use Rattle.paper.specs.Grammar.{Bytes, Line, lines, Read, got, stuck, statement}
 use Rattle.paper.specs.Statement.{Statement}
-use Rattle.paper.specs.Grammar.{statement}
-use Rattle.paper.specs.State as paper
-use Rattle.paper.specs.State.{steps, start}
-use Rattle.paper.specs.Rules.{rules}
+use Rattle.paper.specs.Rules as paper
 use Rattle.paper.specs.Answer as answers
 use Rattle.paper.specs.Answer.{Outcome, stands, refused, judge, judgeRead, judgeLine, report, ending, run, capacityOf, unread, answer, roomAfter}
 use Rattle.paper.proofs.Steps.{caseOf}

@@ -11,14 +11,10 @@ use borrow.Author.Tests.{leb-true, le-leb, lt-ltb}
 use Rattle.ground.proofs.Tests.{split, and-left, and-right, by-cond}
 use Rattle.limits.specs.Limits.{lineBytes}
 use Rattle.limits.specs.Verdicts.{TERMS}
-use Rattle.paper.specs.Verdict.{first}
-use Rattle.paper.specs.Text.{Bytes, Line}
-use Rattle.paper.specs.Reader.{Read, got}
-use Rattle.paper.specs.Statement.{Statement, ring, input, goal, lin, del, ext}
-use Rattle.paper.specs.Grammar.{decimal, statement}
-use Rattle.paper.specs.Meaning.{isIndex, isVariable, inRange, numbersInRange}
-use Rattle.paper.specs.State as paper
-use Rattle.paper.specs.Rules.{rules}
+use Rattle.paper.specs.Rules.{first, rules}
+use Rattle.paper.specs.Grammar.{Bytes, Line, Read, got, decimal, statement}
+use Rattle.paper.specs.Statement.{Statement, ring, input, goal, lin, del, ext, isIndex, isVariable, inRange, numbersInRange}
+use Rattle.paper.specs.Rules as paper
 use Rattle.paper.specs.Answer.{Outcome, stands, refused, indexOf, judge, judgeRead, judgeLine}
 use Rattle.paper.proofs.Steps.{caseOf}
 use Rattle.reader.specs.declared.line.Kind.{Kind}

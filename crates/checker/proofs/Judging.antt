@@ -9,14 +9,10 @@ use borrow.Author.Tests.{ne-eqb, lt-leb}
 use Rattle.ground.specs.Lists.{any}
 use Rattle.limits.specs.Limits.{lineBytes}
 use Rattle.limits.specs.Verdicts.{NUMBER, TERMS, ACCEPTED}
-use Rattle.paper.specs.Verdict.{first}
-use Rattle.paper.specs.Text.{Bytes, Line}
-use Rattle.paper.specs.Reader.{Read, got, stuck}
-use Rattle.paper.specs.Statement.{Statement, fields}
-use Rattle.paper.specs.Grammar.{kinds, oneOf, stopShort, statement}
-use Rattle.paper.specs.Meaning.{numbersInRange, tooManyTerms}
-use Rattle.paper.specs.State as paper
-use Rattle.paper.specs.Rules.{rules}
+use Rattle.paper.specs.Rules.{first, rules}
+use Rattle.paper.specs.Grammar.{Bytes, Line, Read, got, stuck, kinds, oneOf, stopShort, statement}
+use Rattle.paper.specs.Statement.{Statement, fields, numbersInRange, tooManyTerms}
+use Rattle.paper.specs.Rules as paper
 use Rattle.paper.specs.Answer.{stands, refused, judge, judgeLine}
 use Rattle.paper.proofs.Steps.{caseOf}
 use Rattle.paper.proofs.Judging.{judge-stands}

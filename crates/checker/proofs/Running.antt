@@ -9,10 +9,9 @@ use lib.Dec.{ltb}
 use lib.ListN.{length, drop, drop-of-length-le}
 use borrow.Author.Tests.{eq-eqb, ne-eqb, ltb-true, ltb-false}
 use Rattle.limits.specs.Limits.{textBytes, mostPoolTerms, termWords, leastScratch}
-use Rattle.paper.specs.Text.{Bytes, Line, lines}
-use Rattle.paper.specs.Grammar.{statement}
-use Rattle.paper.specs.State as paper
-use Rattle.paper.specs.State.{start}
+use Rattle.paper.specs.Grammar.{Bytes, Line, lines, statement}
+use Rattle.paper.specs.Rules as paper
+use Rattle.paper.specs.Rules.{start}
 use Rattle.paper.specs.Answer as answers
 use Rattle.paper.proofs.Running.{run-stands, run-refused}
 use Rattle.reader.specs.Places.{part}

@@ -6,12 +6,9 @@ use Prim.Native.Nat.{ℕ, _+_}
 use lib.Dec.{leb}
 use lib.ListN.{length}
 use Rattle.limits.specs.Verdicts.{TERMS}
-use Rattle.paper.specs.Text.{Bytes, Line, lines}
-use Rattle.paper.specs.Reader.{Read, got, stuck}
-use Rattle.paper.specs.Statement.{Statement}
-use Rattle.paper.specs.Grammar.{statement}
-use Rattle.paper.specs.Meaning.{numbersInRange}
-use Rattle.paper.specs.State.{start}
+use Rattle.paper.specs.Grammar.{Bytes, Line, lines, Read, got, stuck, statement}
+use Rattle.paper.specs.Statement.{Statement, numbersInRange}
+use Rattle.paper.specs.Rules.{start}
 use Rattle.paper.specs.Answer as paper
 use Rattle.paper.specs.Answer.{stands, refused, indexOf, judgeLine, roomAfter}
 use Rattle.reader.specs.declared.line.Kind.{Kind}

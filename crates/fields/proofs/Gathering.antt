@@ -12,18 +12,15 @@ use lib.ListN.{length, drop, getD, length-append, length-drop}
 use lib.Seq.{drop-cons, paste}
 use borrow.Author.Tests.{ltb-true, ltb-false, lt-ltb, not-true}
 use Rattle.ground.specs.Lists.{every}
-use Rattle.ground.specs.Parts.{Within}
+use Rattle.words.specs.Parts.{Within}
 use Rattle.ground.proofs.Tests.{split, and-left, and-right, and-both}
-use Rattle.ground.proofs.Parts.{within-refl, within-trans, within-wider}
+use Rattle.words.proofs.Parts.{within-refl, within-trans, within-wider}
 use Rattle.limits.specs.Limits.{termWords, fieldTerms}
 use Rattle.algebra.specs.Polynomial.{Term, Poly}
 use Rattle.terms.specs.Terms.{decode}
 use Rattle.terms.proofs.Decode.{behind-within, decode-behind}
-use Rattle.paper.specs.Text.{Bytes}
-use Rattle.paper.specs.Reader.{got, each}
-use Rattle.paper.specs.Statement.{WrittenTerm, Written}
-use Rattle.paper.specs.Grammar.{decimal, term, isZero, asWritten, polynomial}
-use Rattle.paper.specs.Meaning.{isTerm, inRange, tooManyTerms}
+use Rattle.paper.specs.Grammar.{Bytes, got, each, decimal, term, isZero, asWritten, polynomial}
+use Rattle.paper.specs.Statement.{WrittenTerm, Written, isTerm, inRange, tooManyTerms}
 use Rattle.paper.proofs.Ranges.{term-in-range, cond-no, cond-yes}
 use Rattle.paper.proofs.Reading.{term-parts, PolynomialParts, polynomial-parts, takes-polynomial, after-length, each-empty, term-zero, decimal-zero}
 use Rattle.reader.specs.Places.{Got}

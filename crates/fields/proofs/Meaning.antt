@@ -4,16 +4,14 @@ use mathlib.Core.Bool.{Bool, true, false, cond}
 use mathlib.Core.List.{[], _∷_, map}
 use Prim.Native.Nat.{ℕ, _-_, _*_, _^_, _≤_}
 use native.Mathlib.Omega.{arith}
-use Rattle.ground.specs.Congruence.{Same}
+use Rattle.ground.proofs.Congruence.{Same, same-refl, same-add, same-mod, _⊳_}
 use Rattle.ground.specs.Lists.{every}
-use Rattle.ground.proofs.Congruence.{same-refl, same-add, same-mod, _⊳_}
 use Rattle.ground.proofs.Tests.{and-left, and-right}
 use Rattle.limits.specs.Limits.{greatestMagnitude}
 use Rattle.algebra.specs.Polynomial.{sumIf, minusOne, reduce}
 use Rattle.algebra.proofs.Sums.{reduce-sums}
 use Rattle.words.proofs.Wrap.{same-cut, same-negative}
-use Rattle.paper.specs.Statement.{Written}
-use Rattle.paper.specs.Meaning.{isTerm, inRange, setOf, asTerm, reduced}
+use Rattle.paper.specs.Statement.{Written, isTerm, inRange, setOf, asTerm, reduced}
 use Rattle.paper.proofs.Ranges.{term-in-range, keep-same}
 use Rattle.fields.specs.Worded.{signedWord, wordedTerm, worded}
 

@@ -12,10 +12,8 @@ use Rattle.ground.specs.Lists.{every}
 use Rattle.ground.proofs.Tests.{and-left, and-right}
 use Rattle.algebra.proofs.Unions.{or-assoc}
 use Rattle.words.specs.Words.{number}
-use Rattle.paper.specs.Text.{Bytes}
-use Rattle.paper.specs.Reader.{Read, got, stuck, Reader, next, each}
-use Rattle.paper.specs.Grammar.{decimal}
-use Rattle.paper.specs.Meaning.{isVariable, setOf}
+use Rattle.paper.specs.Grammar.{Bytes, Read, got, stuck, Reader, next, each, decimal}
+use Rattle.paper.specs.Statement.{isVariable, setOf}
 use Rattle.paper.proofs.Ranges.{cond-yes, cond-no}
 use Rattle.paper.proofs.Reading.{parted, Takes, each-more, each-stuck, every-append}
 use Rattle.reader.specs.Numbers.{DecimalIs}

@@ -10,11 +10,8 @@ use borrow.Author.Tests.{eqb-true, eqb-false, lt-ltb}
 use Rattle.ground.specs.Lists.{every}
 use Rattle.words.specs.Words.{number}
 use Rattle.terms.specs.Terms.{termOf}
-use Rattle.paper.specs.Text.{Bytes}
-use Rattle.paper.specs.Reader.{got}
-use Rattle.paper.specs.Statement.{WrittenTerm}
-use Rattle.paper.specs.Grammar.{decimal, sign, term}
-use Rattle.paper.specs.Meaning.{isVariable, isTerm}
+use Rattle.paper.specs.Grammar.{Bytes, got, decimal, sign, term}
+use Rattle.paper.specs.Statement.{WrittenTerm, isVariable, isTerm}
 use Rattle.paper.proofs.Ranges.{term-in-range}
 use Rattle.paper.proofs.Reading.{TermParts, term-parts, takes-term, after-length}
 use Rattle.reader.specs.Places.{Got}

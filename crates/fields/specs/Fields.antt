@@ -6,15 +6,12 @@ use Prim.Native.Nat.{ℕ, suc, _+_, _*_, _^_, _≤_}
 use lib.Dec.{ltb}
 use lib.ListN.{length, drop}
 use Rattle.ground.specs.Lists.{every}
-use Rattle.ground.specs.Parts.{Within}
+use Rattle.words.specs.Parts.{Within}
 use Rattle.limits.specs.Limits.{termWords}
 use Rattle.words.specs.Words.{number}
 use Rattle.terms.specs.Terms.{termOf, decode}
-use Rattle.paper.specs.Text.{Bytes}
-use Rattle.paper.specs.Reader.{Reader, got}
-use Rattle.paper.specs.Statement.{WrittenTerm, Written}
-use Rattle.paper.specs.Grammar.{term, polynomial}
-use Rattle.paper.specs.Meaning.{isTerm, inRange, setOf}
+use Rattle.paper.specs.Grammar.{Bytes, Reader, got, term, polynomial}
+use Rattle.paper.specs.Statement.{WrittenTerm, Written, isTerm, inRange, setOf}
 use Rattle.reader.specs.Places.{Got}
 use Rattle.reader.specs.Fields.{moreVariables, moreTerms, fewTerms, fewMore}
 use Rattle.fields.specs.Worded.{wordedTerm, worded}

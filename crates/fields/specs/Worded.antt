@@ -3,8 +3,7 @@ use mathlib.Core.Bool.{Bool, cond}
 use mathlib.Core.List.{map}
 use Prim.Native.Nat.{ℕ, _-_, _%_, _^_}
 use Rattle.algebra.specs.Polynomial.{Term, Poly}
-use Rattle.paper.specs.Statement.{WrittenTerm, Written}
-use Rattle.paper.specs.Meaning.{setOf}
+use Rattle.paper.specs.Statement.{WrittenTerm, Written, setOf}
 
 -- c, or what is added to it to give 0 modulo 2 ^ 64
 unfoldable pub signedWord : Bool → ℕ → ℕ

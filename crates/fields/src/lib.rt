@@ -6,7 +6,7 @@ ghost use lib.ListN.{length};
 ghost use Rattle.ground.specs.Lists.{every};
 ghost use Rattle.limits.specs.Limits.{fieldTerms, termWords};
 ghost use Rattle.paper.specs.Grammar.{decimal, term, polynomial};
-ghost use Rattle.paper.specs.Meaning.{isVariable, isTerm};
+ghost use Rattle.paper.specs.Statement.{isVariable, isTerm};
 ghost use Rattle.reader.specs.Places.{Got};
 ghost use Rattle.reader.specs.Fields.{moreVariables, moreTerms};
 ghost use Rattle.fields.specs.Worded.{signedWord};

@@ -3,7 +3,9 @@ use mathlib.Core.Path.{_≡_, refl, sym, ap, ap₂, _∙_}
 use Prim.Native.Nat.{ℕ, _+_, _-_, _*_, _/_, _%_, _<_}
 use native.Mathlib.Nat.{add-mod, mod-mod, mod-lt, mod-eq-of-lt, mul-assoc, mul-comm, div-add-mod', mul-add-mod-self-right, add-mul}
 use native.Mathlib.Omega.{arith}
-use Rattle.ground.specs.Congruence.{Same}
+
+pub record Same (M x y : ℕ) : Type 0 where
+  pub same : x % M ≡ y % M
 
 module _ (M : ℕ) where
   mul-mod-l : (a b : ℕ) → (a * b) % M ≡ (a % M * b) % M

@@ -1,4 +1,3 @@
 pub mod Tests
 pub mod Congruence
 pub mod Square
-pub mod Parts

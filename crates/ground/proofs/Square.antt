@@ -10,9 +10,8 @@ use native.Mathlib.Decide.{le-ind}
 use mathlib.Core.Bool.{true, false}
 use lib.Dec.{eqb}
 use borrow.Author.Tests.{eqb-true, eqb-false}
-use Rattle.ground.specs.Congruence.{Same}
+use Rattle.ground.proofs.Congruence.{Same, same-add, same-cancel, same-refl, same-eq, same-sym, _⊳_}
 use Rattle.ground.proofs.Tests.{split}
-use Rattle.ground.proofs.Congruence.{same-add, same-cancel, same-refl, same-eq, same-sym, _⊳_}
 
 -- equal modulo 2 ^ suc k, so modulo 2 ^ k
 pub same-down : (k : ℕ) {x y : ℕ} → Same (2 ^ suc k) x y → Same (2 ^ k) x y

@@ -1,3 +1,1 @@
-pub mod Congruence
 pub mod Lists
-pub mod Parts

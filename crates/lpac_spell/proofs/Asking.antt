@@ -8,8 +8,7 @@ use lib.ListN.{length, drop, getD, length-append, length-drop}
 use borrow.Author.Tests.{lt-ltb, le-ltb, ltb-true, eq-eqb, ne-eqb}
 use Rattle.ground.proofs.Tests.{and-left}
 use Rattle.limits.specs.Limits.{greatestRing}
-use Rattle.paper.specs.Text.{Bytes}
-use Rattle.paper.specs.Grammar.{decimal}
+use Rattle.paper.specs.Grammar.{Bytes, decimal}
 use Rattle.paper.specs.Spelling.{Spelled, outputAfter}
 use Rattle.reader.specs.Places.{Got, Fails}
 use Rattle.reader.specs.Numbers.{DecimalIs, TooLarge}

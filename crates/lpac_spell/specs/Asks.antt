@@ -6,8 +6,7 @@ use Prim.Native.Char.{code}
 use lib.Dec.{eqb, ltb}
 use lib.ListN.{length, getD}
 use Rattle.limits.specs.Limits.{greatestRing}
-use Rattle.paper.specs.Text.{Bytes}
-use Rattle.paper.specs.Grammar.{decimal}
+use Rattle.paper.specs.Grammar.{Bytes, decimal}
 use Rattle.reader.specs.Places.{Got}
 use Rattle.lpac_spell.specs.declared.Asked.{Asked}
 use Rattle.lpac_spell.specs.declared.Asked.the-variants.{Field, Shapeless}

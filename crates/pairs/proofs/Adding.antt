@@ -8,19 +8,17 @@ use native.Mathlib.Omega.{arith}
 use lib.Bits.{bitOr}
 use lib.ListN.{length, drop}
 use Rattle.ground.specs.Lists.{every}
-use Rattle.ground.specs.Parts.{part, Within}
-use Rattle.ground.proofs.Parts.{drop-more, above-kept, below-kept}
+use Rattle.words.specs.Parts.{part, Within}
+use Rattle.words.proofs.Parts.{drop-more, above-kept, below-kept}
 use Rattle.ground.proofs.Tests.{and-left}
 use Rattle.limits.specs.Limits.{fieldTerms, lineProducts, termWords, mostPoolTerms}
 use Rattle.algebra.specs.Polynomial.{Poly, products, vars}
 use Rattle.words.specs.Words.{number}
 use Rattle.terms.specs.Terms.{decode, rounded, Appended}
 use Rattle.terms.proofs.Decode.{decode-length, decode-part, decode-below, decode-above}
-use Rattle.paper.specs.Text.{Bytes}
-use Rattle.paper.specs.Statement.{Pair}
-use Rattle.paper.specs.State.{Store, stored, find}
-use Rattle.paper.specs.Grammar.{decimal, polynomial, pair}
-use Rattle.paper.specs.Meaning.{reduced}
+use Rattle.paper.specs.Grammar.{Bytes, decimal, polynomial, pair}
+use Rattle.paper.specs.Statement.{Pair, reduced}
+use Rattle.paper.specs.Rules.{Store, stored, find}
 use Rattle.reader.specs.Places.{Got}
 use Rattle.fields.specs.Fields.{Good, isField}
 use Rattle.fields.specs.declared.FieldRun.{FieldRun}

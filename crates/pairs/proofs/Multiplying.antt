@@ -6,8 +6,8 @@ use native.Mathlib.Nat.{mul-le-mul-right}
 use native.Mathlib.Omega.{arith}
 use lib.ListN.{length, take, drop, take-append-drop}
 use lib.Seq.{length-take-le, length-front, take-append-le, drop-append-le, take-take, drop-drop}
-use Rattle.ground.specs.Parts.{part}
-use Rattle.ground.proofs.Parts.{within-trans, within-wider, above-kept}
+use Rattle.words.specs.Parts.{part}
+use Rattle.words.proofs.Parts.{within-trans, within-wider, above-kept}
 use Rattle.limits.specs.Limits.{termWords}
 use Rattle.algebra.specs.Polynomial.{Term, Poly, times, products}
 use Rattle.terms.specs.Terms.{termOf, decode, rounded, Appended}

@@ -5,10 +5,9 @@ use mathlib.Core.List.{List, _∷_, map}
 use Prim.Native.Nat.{ℕ, _+_, _≤_, _<_}
 use lib.ListN.{length}
 use Rattle.ground.specs.Lists.{every}
-use Rattle.paper.specs.Text.{Bytes}
+use Rattle.paper.specs.Grammar.{Bytes, decimal}
 use Rattle.paper.specs.Statement.{Pair}
-use Rattle.paper.specs.State.{stored}
-use Rattle.paper.specs.Grammar.{decimal}
+use Rattle.paper.specs.Rules.{stored}
 use Rattle.reader.specs.Places.{Got}
 use Rattle.reader.specs.Search.{FieldEnd}
 use Rattle.table.specs.Table.{firsts, entryAt}

@@ -7,21 +7,17 @@ use native.Mathlib.Omega.{arith}
 use lib.Bits.{bitOr, or-comm}
 use lib.ListN.{length, drop}
 use Rattle.ground.specs.Lists.{every, total}
-use Rattle.ground.proofs.Parts.{take-fewer}
+use Rattle.words.proofs.Parts.{take-fewer}
 use Rattle.ground.proofs.Tests.{and-right}
 use Rattle.limits.specs.Limits.{lineProducts, termWords}
-use Rattle.algebra.specs.Polynomial.{Poly, products, vars}
-use Rattle.algebra.specs.Derivation.{allVars}
+use Rattle.algebra.specs.Polynomial.{Poly, products, vars, allVars}
 use Rattle.algebra.proofs.Unions.{or-assoc}
 use Rattle.words.specs.Words.{number}
 use Rattle.terms.specs.Terms.{decode, rounded}
 use Rattle.terms.proofs.Decode.{decode-same}
-use Rattle.paper.specs.Text.{Bytes}
-use Rattle.paper.specs.Statement.{Pair}
-use Rattle.paper.specs.State.{Store, stored, find}
-use Rattle.paper.specs.Grammar.{pair}
-use Rattle.paper.specs.Meaning.{reduced}
-use Rattle.paper.specs.Rules.{combination}
+use Rattle.paper.specs.Grammar.{Bytes, pair}
+use Rattle.paper.specs.Statement.{Pair, reduced}
+use Rattle.paper.specs.Rules.{Store, stored, find, combination}
 use Rattle.reader.proofs.Fields.{same-end}
 use Rattle.fields.proofs.Taking.{same-value}
 use Rattle.regions.specs.Regions.{statedAt, factorAt}

@@ -13,11 +13,8 @@ use borrow.Author.Tests.{ltb-true, ltb-false, lt-ltb, eqb-true, eqb-false, leb-t
 use Rattle.ground.specs.Lists.{every}
 use Rattle.ground.proofs.Tests.{split, and-left, and-right, and-both}
 use Rattle.limits.specs.Limits.{greatestIndex}
-use Rattle.paper.specs.Text.{Bytes, bytes}
-use Rattle.paper.specs.Reader.{Read, got, stuck, each}
-use Rattle.paper.specs.Statement.{Written, Pair}
-use Rattle.paper.specs.Grammar.{decimal, polynomial, tab, field, pair}
-use Rattle.paper.specs.Meaning.{isIndex, inRange}
+use Rattle.paper.specs.Grammar.{Bytes, bytes, Read, got, stuck, each, decimal, polynomial, tab, field, pair}
+use Rattle.paper.specs.Statement.{Written, Pair, isIndex, inRange}
 use Rattle.paper.proofs.Reading.{parted, takes-decimal, takes-polynomial, takes-pair, literal-inside, each-more, each-stuck, each-stop, each-end}
 use Rattle.reader.specs.Places.{Got}
 use Rattle.reader.specs.Fields.{fewTerms}

@@ -6,19 +6,14 @@ use Prim.Native.Nat.{ℕ, _+_, _-_, _*_, _≤_, _<_}
 use lib.Bits.{bitOr}
 use lib.ListN.{length, drop, getD}
 use Rattle.ground.specs.Lists.{every, total}
-use Rattle.ground.specs.Parts.{part}
+use Rattle.words.specs.Parts.{part}
 use Rattle.limits.specs.Limits.{storedPolynomials, lineProducts, termWords, mostPoolTerms}
-use Rattle.algebra.specs.Polynomial.{Poly, products, vars}
-use Rattle.algebra.specs.Derivation.{allVars}
+use Rattle.algebra.specs.Polynomial.{Poly, products, vars, allVars}
 use Rattle.words.specs.Words.{number}
 use Rattle.terms.specs.Terms.{decode, rounded}
-use Rattle.paper.specs.Text.{Bytes}
-use Rattle.paper.specs.Reader.{got}
-use Rattle.paper.specs.Statement.{Pair}
-use Rattle.paper.specs.State.{Store, stored}
-use Rattle.paper.specs.Grammar.{decimal, pair}
-use Rattle.paper.specs.Meaning.{isIndex, reduced}
-use Rattle.paper.specs.Rules.{combination}
+use Rattle.paper.specs.Grammar.{Bytes, got, decimal, pair}
+use Rattle.paper.specs.Statement.{Pair, isIndex, reduced}
+use Rattle.paper.specs.Rules.{Store, stored, combination}
 use Rattle.reader.specs.Places.{Got}
 use Rattle.reader.specs.Lines.{morePairs, pairRanged, pairFew}
 use Rattle.fields.specs.Fields.{Good}

@@ -8,10 +8,9 @@ ghost use Rattle.limits.specs.Limits.{storedPolynomials, fieldTerms, lineProduc
 ghost use Rattle.algebra.specs.Polynomial.{products};
 ghost use Rattle.words.specs.Words.{number};
 ghost use Rattle.terms.specs.Terms.{decode, rounded, Appended};
-ghost use Rattle.paper.specs.Statement.{Pair};
-ghost use Rattle.paper.specs.State.{stored, find};
+ghost use Rattle.paper.specs.Statement.{Pair, isIndex};
+ghost use Rattle.paper.specs.Rules.{stored, find};
 ghost use Rattle.paper.specs.Grammar.{decimal};
-ghost use Rattle.paper.specs.Meaning.{isIndex};
 ghost use Rattle.reader.specs.Places.{Got};
 ghost use Rattle.fields.specs.Fields.{Good};
 ghost use Rattle.table.specs.Table.{polyAt, firsts, entryAt};

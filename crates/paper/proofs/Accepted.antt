@@ -6,15 +6,13 @@ use Prim.Native.Nat.{ℕ}
 use native.Mathlib.Omega.{arith}
 use lib.Dec.{eqb}
 use Rattle.ground.specs.Lists.{gather}
-use Rattle.algebra.specs.Polynomial.{value, vars}
-use Rattle.algebra.specs.Derivation.{allVars, AllZero, none}
+use Rattle.algebra.specs.Polynomial.{value, vars, allVars, AllZero, none}
 use Rattle.algebra.proofs.Sets.{bit-or, bit-of-zero}
 use Rattle.algebra.proofs.Bit.{value-none}
 use Rattle.algebra.proofs.Derivation.{Zeroed, derived-zero, derived-goal}
 use Rattle.paper.specs.Statement.{Statement, ring, fields}
-use Rattle.paper.specs.State.{steps, State, start}
-use Rattle.paper.specs.Rules.{defines, entries, makesSeen, after}
-use Rattle.paper.specs.Says.{ringIn, definedIn, inputsIn, goalIn, introducedIn}
+use Rattle.paper.specs.Rules.{steps, State, start, defines, entries, makesSeen, after}
+use Rattle.paper.specs.Answer.{ringIn, definedIn, inputsIn, goalIn, introducedIn}
 use Rattle.paper.proofs.Steps.{Opened, nothing, opening}
 use Rattle.paper.proofs.Sound.{Good, Final, final}
 

@@ -9,11 +9,9 @@ use lib.ListN.{length, length-append}
 use Rattle.ground.specs.Lists.{every, any, total}
 use Rattle.ground.proofs.Tests.{or-none-left, and-left}
 use Rattle.algebra.specs.Polynomial.{Poly, extension}
-use Rattle.paper.specs.Statement.{Statement, ring, input, goal, lin, del, ext, newIndex, namedIndices}
-use Rattle.paper.specs.Meaning.{reduced}
-use Rattle.paper.specs.State.{modulo, Store, stored, find, storedTerms, State, start}
-use Rattle.paper.specs.Rules.{place, entries, productCount, after}
-use Rattle.paper.specs.Says.{ringIn, sumOver, named, productsIn, introducedPolynomials, deletedPolynomials, introducedTerms, deletedTerms}
+use Rattle.paper.specs.Statement.{Statement, ring, input, goal, lin, del, ext, newIndex, namedIndices, reduced}
+use Rattle.paper.specs.Rules.{modulo, Store, stored, find, storedTerms, State, start, place, entries, productCount, after}
+use Rattle.paper.specs.Answer.{ringIn, sumOver, named, productsIn, introducedPolynomials, deletedPolynomials, introducedTerms, deletedTerms}
 use Rattle.paper.proofs.Stands.{Stands, stands-none}
 use Rattle.paper.proofs.Steps.{Steps, done, step, caseOf, Opened, nothing, opening}
 use Rattle.paper.proofs.Store.{Distinct, find-new, terms-append, distinct-append, distinct-remove, find-remove, terms-remove}

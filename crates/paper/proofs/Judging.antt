@@ -4,10 +4,8 @@ use Prim.Native.Nat.{ℕ, _≤_}
 use native.Mathlib.Omega.{arith}
 use borrow.Author.Tests.{ne-eqb, le-leb}
 use Rattle.limits.specs.Verdicts.{TERMS}
-use Rattle.paper.specs.Verdict.{first}
+use Rattle.paper.specs.Rules.{first, State, rules, after}
 use Rattle.paper.specs.Statement.{Statement}
-use Rattle.paper.specs.State.{State}
-use Rattle.paper.specs.Rules.{rules, after}
 use Rattle.paper.specs.Answer.{stands, refused, indexOf, judge}
 use Rattle.paper.proofs.Steps.{caseOf}
 

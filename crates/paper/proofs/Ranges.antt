@@ -4,14 +4,12 @@ use mathlib.Core.Bool.{Bool, true, false, _&&_, cond}
 use Prim.Native.Nat.{ℕ, _≤_}
 use lib.Dec.{leb}
 use borrow.Author.Tests.{leb-true}
-use Rattle.ground.specs.Congruence.{Same}
+use Rattle.ground.proofs.Congruence.{Same, same-refl}
 use Rattle.ground.specs.Lists.{every}
-use Rattle.ground.proofs.Congruence.{same-refl}
 use Rattle.ground.proofs.Tests.{and-left, and-right}
 use Rattle.limits.specs.Limits.{greatestMagnitude}
 use Rattle.algebra.specs.Polynomial.{keep}
-use Rattle.paper.specs.Statement.{WrittenTerm}
-use Rattle.paper.specs.Meaning.{isVariable, isTerm}
+use Rattle.paper.specs.Statement.{WrittenTerm, isVariable, isTerm}
 
 pub record TermInRange (t : WrittenTerm) : Type 0 where
   pub some : 1 ≤ t .magnitude

@@ -14,12 +14,9 @@ use Rattle.ground.specs.Lists.{gather}
 use Rattle.ground.proofs.Tests.{split, by-cond, and-left, and-right}
 use Rattle.limits.specs.Limits.{variables}
 use Rattle.algebra.specs.Sets.{members}
-use Rattle.algebra.specs.Polynomial.{Term, Poly}
-use Rattle.algebra.specs.Reduced.{Reduced}
-use Rattle.paper.specs.Text.{Bytes, bytes}
-use Rattle.paper.specs.Reader.{Read, got, Reader, next, end, upTo, each}
+use Rattle.algebra.specs.Polynomial.{Term, Poly, Reduced}
+use Rattle.paper.specs.Grammar.{Bytes, bytes, Read, got, Reader, next, end, upTo, each, isDigit, digits, decimal, sign, term, isZero, asWritten, polynomial}
 use Rattle.paper.specs.Statement.{WrittenTerm, Written}
-use Rattle.paper.specs.Grammar.{isDigit, digits, decimal, sign, term, isZero, asWritten, polynomial}
 use Rattle.paper.specs.Spelling.{spellDigits, spellNumber, spellCoefficient, spellTerm, spell, wholeField}
 
 -- ---- numbers

@@ -14,10 +14,8 @@ use lib.Seq.{drop-cons, drop-drop, take-add}
 use borrow.Author.Tests.{leb-true, not-true, eqb-true, eqb-false, le-leb, lt-leb, eq-eqb, ne-eqb}
 use Rattle.ground.specs.Lists.{every}
 use Rattle.ground.proofs.Tests.{and-left, and-right, and-both}
-use Rattle.paper.specs.Text.{Bytes, bytes}
-use Rattle.paper.specs.Reader.{Read, got, stuck, Reader, next, give, literal, upTo, each}
+use Rattle.paper.specs.Grammar.{Bytes, bytes, Read, got, stuck, Reader, next, give, literal, upTo, each, isDigit, digits, decimal, sign, term, isZero, asWritten, polynomial, tab, number, field, pair}
 use Rattle.paper.specs.Statement.{WrittenTerm, Written}
-use Rattle.paper.specs.Grammar.{isDigit, digits, decimal, sign, term, isZero, asWritten, polynomial, tab, number, field, pair}
 
 clash : {A : Type 0} {x : A} {s t : Bytes} → stuck s ≡ got x t → ⊥
 clash e = let z : _≡_ {A = ℕ} 0 1 = cc in omega arith

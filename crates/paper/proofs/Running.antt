@@ -8,11 +8,9 @@ use lib.ListN.{length}
 use borrow.Author.Tests.{lt-ltb, le-ltb}
 use Rattle.limits.specs.Limits.{lineBytes}
 use Rattle.limits.specs.Verdicts.{LONGLINE, FORM}
-use Rattle.paper.specs.Text.{Bytes, Line}
-use Rattle.paper.specs.Reader.{got, stuck}
+use Rattle.paper.specs.Grammar.{Bytes, Line, got, stuck, statement}
 use Rattle.paper.specs.Statement.{Statement}
-use Rattle.paper.specs.Grammar.{statement}
-use Rattle.paper.specs.State.{State}
+use Rattle.paper.specs.Rules.{State}
 use Rattle.paper.specs.Answer.{Outcome, stands, refused, judge, judgeRead, judgeLine, report, run}
 
 module _ (capacity : ℕ) (s : State) where

@@ -9,23 +9,19 @@ use native.Mathlib.Omega.{arith}
 use lib.Bits.{bitOr}
 use lib.Dec.{eqb}
 use borrow.Author.Tests.{not-false, eqb-true, eqb-false}
-use Rattle.ground.specs.Congruence.{Same}
+use Rattle.ground.proofs.Congruence.{Same, same-add, same-mul, same-refl, same-eq, _⊳_}
 use Rattle.ground.specs.Lists.{any, gather}
 use Rattle.ground.proofs.Tests.{split, by-cond, or-cases}
-use Rattle.ground.proofs.Congruence.{same-add, same-mul, same-refl, same-eq, _⊳_}
 use Rattle.algebra.specs.Sets.{bit, Apart}
-use Rattle.algebra.specs.Polynomial.{Poly, sumAt, value, vars, equal, products, reduce, product, extension}
-use Rattle.algebra.specs.Derivation.{allVars, AllZero, Forced, Derived, input as inputOf, forced, defined}
+use Rattle.algebra.specs.Polynomial.{Poly, sumAt, value, vars, equal, products, reduce, product, extension, allVars, AllZero, Forced, Derived, input as inputOf, forced, defined}
 use Rattle.algebra.proofs.Sets.{bit-or, bit-lt, bit-of-zero, bit-pow-other, has-false, has-none}
 use Rattle.algebra.proofs.Values.{value-reduce, sumAt-append, sumAt-mul}
 use Rattle.algebra.proofs.Bit.{equal-true, value-none}
 use Rattle.algebra.proofs.Variables.{vars-extension}
 use Rattle.algebra.proofs.Derivation.{zero-left, zero-right, zero-both}
-use Rattle.paper.specs.Statement.{Written, Pair, Statement, ring, input, goal, lin, del, ext, onInput, onExt, fields}
-use Rattle.paper.specs.Meaning.{reduced}
-use Rattle.paper.specs.State.{modulo, inputs, steps, Store, find, remove, State}
-use Rattle.paper.specs.Rules.{place, defines, entries, makesSeen, combination, clashes, differs, noBit, holdsGoal, after}
-use Rattle.paper.specs.Says.{inputsIn, goalIn, introducedIn, definedIn}
+use Rattle.paper.specs.Statement.{Written, Pair, Statement, ring, input, goal, lin, del, ext, onInput, onExt, fields, reduced}
+use Rattle.paper.specs.Rules.{modulo, inputs, steps, Store, find, remove, State, place, defines, entries, makesSeen, combination, clashes, differs, noBit, holdsGoal, after}
+use Rattle.paper.specs.Answer.{inputsIn, goalIn, introducedIn, definedIn}
 use Rattle.paper.proofs.Stands.{Stands, stands-none}
 use Rattle.paper.proofs.Steps.{Steps, done, step, caseOf}
 

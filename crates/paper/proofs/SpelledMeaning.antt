@@ -9,17 +9,14 @@ use lib.Bits.{bitOr, or-lt, or-shifted-r}
 use lib.Dec.{eqb, leb}
 use lib.Pow.{pow-pos, pow-lt}
 use borrow.Author.Tests.{eqb-true, eqb-false, ltb-true}
-use Rattle.ground.specs.Congruence.{Same}
+use Rattle.ground.proofs.Congruence.{Same, same-refl, same-eq, same-add, same-cancel, same-sym, _⊳_}
 use Rattle.ground.specs.Lists.{every}
-use Rattle.ground.proofs.Congruence.{same-refl, same-eq, same-add, same-cancel, same-sym, _⊳_}
 use Rattle.ground.proofs.Tests.{by-cond, and-left, and-right}
 use Rattle.limits.specs.Limits.{variables}
 use Rattle.algebra.specs.Sets.{members}
-use Rattle.algebra.specs.Polynomial.{Term, Poly, keep, sumIf, coefOf, minusOne}
-use Rattle.algebra.specs.Reduced.{Below, Reduced}
+use Rattle.algebra.specs.Polynomial.{Term, Poly, keep, sumIf, coefOf, minusOne, Below, Reduced}
 use Rattle.algebra.proofs.Reduced.{is-reduce}
-use Rattle.paper.specs.Statement.{Written}
-use Rattle.paper.specs.Meaning.{isVariable, isTerm, inRange, setOf, asTerm, reduced}
+use Rattle.paper.specs.Statement.{Written, isVariable, isTerm, inRange, setOf, asTerm, reduced}
 use Rattle.paper.proofs.Ranges.{term-in-range, keep-same}
 use Rattle.paper.proofs.ReadBack.{writtenTerm}
 

@@ -10,11 +10,8 @@ use borrow.Author.Tests.{ltb-true, ltb-false, eqb-true, not-false}
 use Rattle.ground.specs.Lists.{every, any}
 use Rattle.ground.proofs.Tests.{and-left, and-right}
 use Rattle.limits.specs.Limits.{lineProducts}
-use Rattle.paper.specs.Verdict.{Row, first}
-use Rattle.paper.specs.Statement.{newIndex, namedIndices, fields}
-use Rattle.paper.specs.Meaning.{numbersInRange, tooManyTerms}
-use Rattle.paper.specs.State.{stored, find}
-use Rattle.paper.specs.Rules.{place, entries, productCount, clashes, differs, noBit, overfull, Case, ringOf, rules}
+use Rattle.paper.specs.Rules.{Row, first, stored, find, place, entries, productCount, clashes, differs, noBit, overfull, Case, ringOf, rules}
+use Rattle.paper.specs.Statement.{newIndex, namedIndices, fields, numbersInRange, tooManyTerms}
 
 -- ---- any table
 past : (b : Bool) (v w : ℕ) → 0 < v → cond b v w ≡ 0 → (b ≡ false) × (w ≡ 0)

@@ -11,15 +11,10 @@ use Rattle.ground.specs.Lists.{gather}
 use Rattle.ground.proofs.Tests.{by-cond}
 use Rattle.limits.specs.Limits.{lineBytes}
 use Rattle.limits.specs.Verdicts.{LONGLINE, NOGOAL, NOTREACHED}
-use Rattle.paper.specs.Verdict.{first}
-use Rattle.paper.specs.Text.{Line}
-use Rattle.paper.specs.Reader.{Read, got, stuck}
+use Rattle.paper.specs.Rules.{first, steps, storedTerms, State, start, place, Case, rules, after}
+use Rattle.paper.specs.Grammar.{Line, Read, got, stuck, statement}
 use Rattle.paper.specs.Statement.{Statement, ring, input, goal, lin, del, ext}
-use Rattle.paper.specs.Grammar.{statement}
-use Rattle.paper.specs.State.{steps, storedTerms, State, start}
-use Rattle.paper.specs.Rules.{place, Case, rules, after}
-use Rattle.paper.specs.Answer.{Answer, Outcome, stands, refused, judge, judgeRead, judgeLine, report, ending, proceed, run}
-use Rattle.paper.specs.Says.{ifRead, ifStands, acceptedFrom}
+use Rattle.paper.specs.Answer.{Answer, Outcome, stands, refused, judge, judgeRead, judgeLine, report, ending, proceed, run, ifRead, ifStands, acceptedFrom}
 use Rattle.paper.proofs.Stands.{stands-none}
 
 positive : (n : ℕ) → (n ≡ 0 → ⊥) → 0 < n

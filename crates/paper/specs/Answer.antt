@@ -1,18 +1,17 @@
--- The answer for a text and its lent room.
+-- The answer for a text and its lent room, and what the text says: ring, inputs, goal, what it introduces, and the counts over its accepted statements.
 use mathlib.Core.Bool.{_||_, cond}
-use mathlib.Core.List.{List, [], _∷_}
-use Prim.Native.Nat.{ℕ, suc, _/_, min}
+use mathlib.Core.List.{List, [], _∷_, map}
+use Prim.Native.Nat.{ℕ, suc, _/_, min, _+_}
 use lib.Dec.{eqb, leb, ltb}
 use lib.ListN.{length, replicate}
 use Rattle.limits.specs.Limits.{textBytes, lineBytes, termWords, leastPool, mostPoolTerms, leastScratch}
 use Rattle.limits.specs.Verdicts.{ACCEPTED, SHORT, LONGTEXT, LONGLINE, FORM, TERMS, NOGOAL, NOTREACHED}
-use Rattle.paper.specs.Verdict.{first}
-use Rattle.paper.specs.Text.{Bytes, Line, lines}
-use Rattle.paper.specs.Reader.{Read, got, stuck}
-use Rattle.paper.specs.Statement.{Statement, cases}
-use Rattle.paper.specs.Grammar.{statement}
-use Rattle.paper.specs.State.{steps, storedTerms, State, start}
-use Rattle.paper.specs.Rules.{rules, after}
+use Rattle.paper.specs.Rules.{first, steps, storedTerms, State, start, stored, find, rules, after, defines, entries, productCount}
+use Rattle.paper.specs.Grammar.{Bytes, Line, lines, Read, got, stuck, statement}
+use Rattle.paper.specs.Statement.{Statement, cases, onRing, onInput, onGoal, onDel, reduced}
+use lib.Bits.{bitOr}
+use Rattle.ground.specs.Lists.{gather}
+use Rattle.algebra.specs.Polynomial.{Poly}
 
 pub record Answer : Type 0 where
   pub verdict : ℕ
@@ -77,3 +76,70 @@ answer text pool scratch =
 -- pool or scratch afterwards: untouched after SHORT and LONGTEXT, else zero throughout
 unfoldable pub roomAfter : ℕ → List ℕ → List ℕ
 roomAfter verdict room = cond (eqb verdict SHORT || eqb verdict LONGTEXT) room (replicate (length room) 0)
+
+-- ---- the whole text, accepted or not
+abbrev pub ifRead : Read Statement → List Statement
+ifRead (got st r) = st ∷ []
+ifRead (stuck r) = []
+
+unfoldable pub statements : Bytes → List Statement
+statements text = gather (λ l. ifRead (statement l)) (lines text)
+
+unfoldable pub ringIn : List Statement → ℕ
+ringIn [] = 0
+ringIn (st ∷ sts) = onRing (ringIn sts) (λ k. k) st
+
+unfoldable pub definedIn : List Statement → ℕ
+definedIn [] = 0
+definedIn (st ∷ sts) = bitOr (defines st) (definedIn sts)
+
+module _ (k : ℕ) where
+  unfoldable pub inputsIn : List Statement → List Poly
+  inputsIn sts = gather (onInput [] (λ i p. reduced k p ∷ [])) sts
+
+  unfoldable pub goalIn : List Statement → Poly
+  goalIn [] = []
+  goalIn (st ∷ sts) = onGoal (goalIn sts) (λ p. reduced k p) st
+
+  -- the polynomials of the in, lin and ext lines
+  unfoldable pub introducedIn : List Statement → List Poly
+  introducedIn sts = gather (λ st. map (λ e. e .poly) (entries k st)) sts
+
+-- ---- the accepted statements, the newest first
+abbrev pub ifStands : Read Statement → Outcome → List Statement → (State → List Statement → List Statement) → List Statement
+ifStands (got st r) (stands s) h go = go s (st ∷ h)
+ifStands (got st r) (refused v i) h go = h
+ifStands (stuck r) o h go = h
+
+unfoldable pub acceptedFrom : ℕ → State → List Statement → List Line → List Statement
+acceptedFrom capacity s h [] = h
+acceptedFrom capacity s h (l ∷ ls) = ifStands (statement l) (judgeLine capacity s l) h (λ s′ h′. acceptedFrom capacity s′ h′ ls)
+
+unfoldable pub accepted : Bytes → ℕ → List Statement
+accepted text pool = acceptedFrom (capacityOf pool) start [] (lines text)
+
+-- ---- sums over them; f takes those before and the statement
+unfoldable pub sumOver : (List Statement → Statement → ℕ) → List Statement → ℕ
+sumOver f [] = 0
+sumOver f (st ∷ h) = sumOver f h + f h st
+
+module _ (k : ℕ) where
+  -- the polynomial that an index names after them
+  unfoldable pub named : List Statement → ℕ → Poly
+  named [] i = []
+  named (st ∷ h) i = cond (stored (entries k st) i) (find (entries k st) i) (onDel (named h i) (λ j. cond (eqb i j) [] (named h i)) st)
+
+  unfoldable pub productsIn : List Statement → ℕ
+  productsIn = sumOver (λ h st. productCount k (named h) st)
+
+  unfoldable pub introducedPolynomials : List Statement → ℕ
+  introducedPolynomials = sumOver (λ h st. length (entries k st))
+
+  unfoldable pub deletedPolynomials : List Statement → ℕ
+  deletedPolynomials = sumOver (λ h. onDel 0 (λ i. 1))
+
+  unfoldable pub introducedTerms : List Statement → ℕ
+  introducedTerms = sumOver (λ h st. storedTerms (entries k st))
+
+  unfoldable pub deletedTerms : List Statement → ℕ
+  deletedTerms = sumOver (λ h. onDel 0 (λ i. length (named h i)))

@@ -1,13 +1,78 @@
--- The lines of a text, read from left to right.
-use mathlib.Core.Bool.{Bool, true, false, _&&_, not, cond}
+-- The lines of a text, and how each is read from left to right.
+use mathlib.Core.Bool.{Bool, true, false, cond, _&&_, not}
 use mathlib.Core.List.{List, [], _∷_}
-use Prim.Native.Nat.{ℕ, _+_, _-_, _*_}
+use Prim.Native.Nat.{ℕ, zero, suc, _+_, _-_, _*_}
+use Prim.Native.String.{String, [] as nil, _∷_ as cons}
 use Prim.Native.Char.{code}
-use Prim.Native.String.{String}
 use lib.Dec.{eqb, leb}
-use Rattle.paper.specs.Text.{Bytes, bytes, Line}
-use Rattle.paper.specs.Reader.{Read, got, stuck, Reader, _>>=_, _>>_, give, literal, end, each}
+use lib.ListN.{length}
 use Rattle.paper.specs.Statement.{WrittenTerm, Written, Pair, Statement, ring, input, goal, lin, del, ext}
+
+abbrev pub Bytes : Type 0
+Bytes = List ℕ
+
+-- the bytes of a quoted text
+unfoldable pub bytes : String → Bytes
+bytes nil = []
+bytes (cons c s) = code c ∷ bytes s
+
+-- a line without its byte 10; only the last can lack one
+pub record Line : Type 0 where
+  pub content : Bytes
+  pub ended : Bool
+
+unfoldable pub onFirst : ℕ → List Line → List Line
+onFirst b [] = record { content = b ∷ []; ended = false } ∷ []
+onFirst b (l ∷ ls) = record { content = b ∷ l .content; ended = l .ended } ∷ ls
+
+unfoldable pub lines : Bytes → List Line
+lines [] = []
+lines (b ∷ s) = cond (eqb b (code "\n")) (record { content = []; ended = true } ∷ lines s) (onFirst b (lines s))
+
+-- what was read and the bytes left, or the bytes from the one that cannot stand there
+pub data Read (A : Type 0) : Type 0 where
+  got : A → Bytes → Read A
+  stuck : Bytes → Read A
+
+abbrev pub Reader : Type 0 → Type 0
+Reader A = Bytes → Read A
+
+abbrev pub next : {A B : Type 0} → Read A → (A → Reader B) → Read B
+next (got a s) f = f a s
+next (stuck s) f = stuck s
+
+-- one reader after the other
+abbrev pub _>>=_ : {A B : Type 0} → Reader A → (A → Reader B) → Reader B
+_>>=_ r f = λ s. next (r s) f
+
+abbrev pub _>>_ : {A B : Type 0} → Reader A → Reader B → Reader B
+_>>_ r q = λ s. next (r s) (λ _. q)
+
+abbrev pub give : {A : Type 0} → A → Reader A
+give a = λ s. got a s
+
+-- these bytes
+unfoldable pub literal : Bytes → Reader (Unit {0})
+literal [] s = got tt s
+literal (c ∷ w) [] = stuck []
+literal (c ∷ w) (b ∷ s) = cond (eqb b c) (literal w s) (stuck (b ∷ s))
+
+-- nothing more
+unfoldable pub end : Reader (Unit {0})
+end [] = got tt []
+end (b ∷ s) = stuck (b ∷ s)
+
+-- as many items as follow, n at the most, each behind the byte c
+unfoldable pub upTo : {A : Type 0} → ℕ → ℕ → Reader A → Reader (List A)
+upTo zero c item s = got [] s
+upTo (suc n) c item [] = got [] []
+upTo (suc n) c item (b ∷ s) =
+    let more : Read (List _) = next (item s) (λ x r. next (upTo n c item r) (λ xs r′. got (x ∷ xs) r′)) in
+    cond (eqb b c) more (got [] (b ∷ s))
+
+-- there are no more of them than bytes
+abbrev pub each : {A : Type 0} → ℕ → Reader A → Reader (List A)
+each c item = λ s. upTo (length s) c item s
 
 -- ---- decimals: no leading zero
 unfoldable pub isDigit : ℕ → Bool

@@ -1,11 +1,5 @@
-pub mod Verdict
-pub mod Text
-pub mod Reader
 pub mod Statement
 pub mod Grammar
-pub mod Meaning
-pub mod State
 pub mod Rules
 pub mod Answer
-pub mod Says
 pub mod Spelling

@@ -1,20 +1,81 @@
 -- When a statement is refused, in the order of the verdicts, and what one that stands changes.
-use mathlib.Core.Bool.{Bool, false, _||_, not}
+use mathlib.Core.Bool.{Bool, cond, false, _||_, not}
 use mathlib.Core.List.{List, [], _∷_, _++_, map}
 use Prim.Native.Nat.{ℕ, _+_, _*_, _^_}
-use lib.Bits.{bitOr}
+use Rattle.limits.specs.Verdicts.{ACCEPTED, NUMBER, TERMS, ORDER, TAKEN, MISSING, SEEN, PRODUCTS, MISMATCH, NOTBIT, FULL}
 use lib.Dec.{eqb, leb, ltb}
 use lib.ListN.{length}
-use Rattle.ground.specs.Lists.{every, any, total}
+use Rattle.ground.specs.Lists.{any, total, every}
+use Rattle.algebra.specs.Polynomial.{Poly, vars, equal, products, reduce, product, extension, allVars}
+use lib.Bits.{bitOr}
 use Rattle.limits.specs.Limits.{storedPolynomials, lineProducts}
 use Rattle.algebra.specs.Sets.{has}
-use Rattle.algebra.specs.Polynomial.{Poly, vars, equal, products, reduce, product, extension}
-use Rattle.algebra.specs.Derivation.{allVars}
-use Rattle.limits.specs.Verdicts.{NUMBER, TERMS, ORDER, TAKEN, MISSING, SEEN, PRODUCTS, MISMATCH, NOTBIT, FULL}
-use Rattle.paper.specs.Verdict.{Row, row}
-use Rattle.paper.specs.Statement.{Pair, Statement, cases, onRing, onInput, onGoal, onLin, onDel, onExt, newIndex, namedIndices, fields}
-use Rattle.paper.specs.Meaning.{numbersInRange, tooManyTerms, reduced}
-use Rattle.paper.specs.State.{modulo, bits, opening, inputs, steps, Store, stored, find, remove, storedTerms, State}
+use Rattle.paper.specs.Statement.{Pair, Statement, cases, onRing, onInput, onGoal, onLin, onDel, onExt, newIndex, namedIndices, fields, numbersInRange, tooManyTerms, reduced}
+
+pub record Row (A : Type 0) : Type 0 where
+  pub verdict : ℕ
+  pub refuses : A → Bool
+
+abbrev pub row : {A : Type 0} → ℕ → (A → Bool) → Row A
+row v f = record { verdict = v; refuses = f }
+
+unfoldable pub first : {A : Type 0} → List (Row A) → A → ℕ
+first [] x = ACCEPTED
+first (r ∷ rs) x = let rest : ℕ = first rs x in cond (r .refuses x) (r .verdict) rest
+
+-- the integers modulo 2 ^ k
+pub data Ring : Type 0 where
+  modulo : ℕ → Ring
+
+abbrev pub bits : Ring → ℕ
+bits (modulo k) = k
+
+-- the phases: before the ring line, before the goal line, after it
+abbrev pub opening : ℕ
+opening = 0
+
+abbrev pub inputs : ℕ
+inputs = 1
+
+abbrev pub steps : ℕ
+steps = 2
+
+pub record Entry : Type 0 where
+  pub index : ℕ
+  pub poly : Poly
+
+-- the oldest first
+abbrev pub Store : Type 0
+Store = List Entry
+
+unfoldable pub stored : Store → ℕ → Bool
+stored s i = any (λ e. eqb i (e .index)) s
+
+-- zero where the index is not stored
+unfoldable pub find : Store → ℕ → Poly
+find [] i = []
+find (e ∷ s) i = cond (eqb i (e .index)) (e .poly) (find s i)
+
+unfoldable pub remove : Store → ℕ → Store
+remove [] i = []
+remove (e ∷ s) i = cond (eqb i (e .index)) s (e ∷ remove s i)
+
+unfoldable pub storedTerms : Store → ℕ
+storedTerms s = total (λ e. length (e .poly)) s
+
+pub record State : Type 0 where
+  pub phase : ℕ
+  pub ring : Ring
+  pub store : Store
+  -- the variables that have been seen
+  pub seen : ℕ
+  pub goal : Poly
+  pub reached : Bool
+  -- those of all accepted lines
+  pub products : ℕ
+
+unfoldable pub start : State
+start = record { phase = opening; ring = modulo 0; store = []; seen = 0; goal = []; reached = false; products = 0 }
 
 -- where a statement may stand
 unfoldable pub place : Statement → ℕ

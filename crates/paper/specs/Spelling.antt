@@ -10,12 +10,9 @@ use Rattle.limits.specs.Limits.{variables, lineBytes, leastSpellingScratch}
 use Rattle.algebra.specs.Sets.{members}
 use Rattle.algebra.specs.Polynomial.{Term, Poly}
 use Rattle.limits.specs.Verdicts.{ACCEPTED, SHORT, LONGLINE, FORM, NUMBER, TERMS, FULL}
-use Rattle.paper.specs.Verdict.{Row, row, first}
-use Rattle.paper.specs.Text.{Bytes, bytes}
-use Rattle.paper.specs.Reader.{Read, got, stuck, Reader, _>>=_, _>>_, give, end}
-use Rattle.paper.specs.Statement.{Written}
-use Rattle.paper.specs.Grammar.{polynomial}
-use Rattle.paper.specs.Meaning.{isRing, inRange, tooManyTerms, reduced}
+use Rattle.paper.specs.Rules.{Row, row, first}
+use Rattle.paper.specs.Grammar.{Bytes, bytes, Read, got, stuck, Reader, _>>=_, _>>_, give, end, polynomial}
+use Rattle.paper.specs.Statement.{Written, isRing, inRange, tooManyTerms, reduced}
 
 -- ---- the spelling
 -- the decimal of n, which has at most d digits

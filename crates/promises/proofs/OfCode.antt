@@ -7,7 +7,7 @@ use Rattle.paper.specs.Answer as paper
 use Rattle.paper.specs.Answer.{roomAfter}
 use Rattle.checker.specs.declared.answer.Answer.{Answer}
 use Rattle.checker.specs.Checked.{answerOf, Checked}
-use Rattle.promises.specs.OfCode.{Decided, CheckedIsSound}
+use Rattle.promises.specs.Promises.{Decided, CheckedIsSound}
 use Rattle.promises.proofs.Promises.{accepted-is-sound}
 
 -- the six numbers are all there is of an answer

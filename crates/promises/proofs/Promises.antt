@@ -18,11 +18,10 @@ use Rattle.algebra.proofs.Reduced.{is-reduce}
 use Rattle.algebra.proofs.OneForm.{one-form}
 use Rattle.algebra.proofs.Bit.{bit-cases, value-lt}
 use Rattle.algebra.proofs.Derivation.{derived-zero, derived-goal}
-use Rattle.paper.specs.Text.{Bytes, lines}
+use Rattle.paper.specs.Grammar.{Bytes, lines}
 use Rattle.paper.specs.Statement.{Statement}
-use Rattle.paper.specs.State.{start}
-use Rattle.paper.specs.Answer.{Answer, run, capacityOf, unread, answer}
-use Rattle.paper.specs.Says.{statements, ringIn, accepted}
+use Rattle.paper.specs.Rules.{start}
+use Rattle.paper.specs.Answer.{Answer, run, capacityOf, unread, answer, statements, ringIn, accepted}
 use Rattle.paper.proofs.Steps.{ran, opened}
 use Rattle.paper.proofs.Accepted.{sound-steps}
 use Rattle.paper.proofs.Counts.{counted-steps}
@@ -38,7 +37,7 @@ pub one-form-n : OneForm
 one-form-n k n p q = one-form k p q (2 ^ n)
 
 pub one-list : OneList
-one-list k n p q = is-reduce k (2 ^ n) p q
+one-list k n p q b r e = is-reduce k (2 ^ n) p q b r (λ m h. record { same = e m h })
 
 pub bit-everywhere : BitEverywhere
 bit-everywhere k a p h e =

@@ -5,18 +5,15 @@ use mathlib.Core.Logic.{_↔_}
 use mathlib.Core.List.{[], map}
 use Prim.Native.Nat.{ℕ, _^_, _<_}
 use Rattle.limits.specs.Limits.{variables}
-use Rattle.algebra.specs.Polynomial.{Poly, value}
-use Rattle.algebra.specs.Reduced.{Reduced}
+use Rattle.algebra.specs.Polynomial.{Poly, value, Reduced}
 use Rattle.algebra.proofs.Reduced.{reduced-reduce}
 use Rattle.algebra.proofs.OneForm.{one-form}
-use Rattle.paper.specs.Text.{Bytes}
-use Rattle.paper.specs.Reader.{got}
-use Rattle.paper.specs.Statement.{Written}
-use Rattle.paper.specs.Meaning.{inRange, asTerm, reduced}
+use Rattle.paper.specs.Grammar.{Bytes, got}
+use Rattle.paper.specs.Statement.{Written, inRange, asTerm, reduced}
 use Rattle.paper.specs.Spelling.{spell, wholeField}
 use Rattle.paper.proofs.ReadBack.{writtenTerm, spell-back}
 use Rattle.paper.proofs.SpelledMeaning.{field-below, meaning-back}
-use Rattle.promises.specs.Spelling.{ReadsAs, ReadBack, SpelledTwice, OneSpelling}
+use Rattle.promises.specs.Promises.{ReadsAs, ReadBack, SpelledTwice, OneSpelling}
 
 pub read-back : ReadBack
 read-back k p r = record { field = map (writtenTerm k) p; reads = spell-back k (2 ^ variables) p r; means = meaning-back k p r }

@@ -1,18 +1,19 @@
--- What is promised, one type a promise. Each is proved in proofs/Promises.antt.
+-- What is promised, one type a promise. Each is proved in proofs/.
 use mathlib.Core.Path.{_≡_}
+use mathlib.Core.Bool.{true}
 use mathlib.Core.Logic.{_⊎_, _↔_}
-use mathlib.Core.List.{List}
+use mathlib.Core.List.{List, [], map}
 use Prim.Native.Nat.{ℕ, _+_, _*_, _%_, _^_, _<_}
-use Rattle.ground.specs.Congruence.{Same}
+use Rattle.limits.specs.Limits.{variables}
 use Rattle.limits.specs.Verdicts.{ACCEPTED, SHORT, LONGTEXT}
 use Rattle.algebra.specs.Sets.{DifferOnlyAt, Apart}
-use Rattle.algebra.specs.Polynomial.{Poly, value, vars, coefOf, reduce, sum, product}
-use Rattle.algebra.specs.Reduced.{Below, Reduced}
-use Rattle.algebra.specs.Derivation.{AllZero, Forced, Derived}
-use Rattle.paper.specs.Text.{Bytes}
-use Rattle.paper.specs.Statement.{Statement}
-use Rattle.paper.specs.Answer.{Answer, answer}
-use Rattle.paper.specs.Says.{statements, ringIn, definedIn, inputsIn, goalIn, introducedIn, accepted, productsIn, introducedPolynomials, deletedPolynomials, introducedTerms, deletedTerms}
+use Rattle.algebra.specs.Polynomial.{Poly, value, vars, coefOf, reduce, sum, product, Below, Reduced, AllZero, Forced, Derived}
+use Rattle.paper.specs.Statement.{Written, Statement, inRange, asTerm, reduced}
+use Rattle.paper.specs.Grammar.{Bytes, got}
+use Rattle.paper.specs.Answer.{Answer, answer, statements, ringIn, definedIn, inputsIn, goalIn, introducedIn, accepted, productsIn, introducedPolynomials, deletedPolynomials, introducedTerms, deletedTerms}
+use Rattle.paper.specs.Spelling.{spell, wholeField}
+use Rattle.checker.specs.declared.answer.Answer as code
+use Rattle.checker.specs.Checked.{Checked}
 
 -- ---- algebra: a reduced sum or product has the sum or product of the values
 abbrev pub SumOfValues : Type 0
@@ -27,7 +28,7 @@ OneForm = (k n : ℕ) (p q : Poly) → Below (2 ^ n) p → Below (2 ^ n) q → (
 
 -- and that form is the one list in falling order, without zeros, with the same coefficient of each set
 abbrev pub OneList : Type 0
-OneList = (k n : ℕ) (p q : Poly) → Below (2 ^ n) p → Reduced k (2 ^ n) q → ((m : ℕ) → m < 2 ^ n → Same (2 ^ k) (coefOf m q) (coefOf m p)) → q ≡ reduce k p
+OneList = (k n : ℕ) (p q : Poly) → Below (2 ^ n) p → Reduced k (2 ^ n) q → ((m : ℕ) → m < 2 ^ n → coefOf m q % 2 ^ k ≡ coefOf m p % 2 ^ k) → q ≡ reduce k p
 
 -- a polynomial that is its own square is a bit everywhere
 abbrev pub BitEverywhere : Type 0
@@ -35,12 +36,10 @@ BitEverywhere = (k a : ℕ) (p : Poly) → 0 < k → product k p p ≡ p → (va
 
 -- ---- derived polynomials, whatever calculus derived them
 abbrev pub DerivedForces : Type 0
-DerivedForces = (k : ℕ) (is ps : List Poly) (es : ℕ) (g : Poly) → Derived k is es ps → Apart es (vars g) → Forced k ps g
-    → (a : ℕ) → AllZero k a is → value k a g ≡ 0
+DerivedForces = (k : ℕ) (is ps : List Poly) (es : ℕ) (g : Poly) → Derived k is es ps → Apart es (vars g) → Forced k ps g → (a : ℕ) → AllZero k a is → value k a g ≡ 0
 
 abbrev pub DefinitionsCanBeMet : Type 0
-DefinitionsCanBeMet = (k : ℕ) (is ps : List Poly) (es : ℕ) → Derived k is es ps
-    → (a : ℕ) → AllZero k a is → (b : ℕ) × DifferOnlyAt es a b × AllZero k b ps
+DefinitionsCanBeMet = (k : ℕ) (is ps : List Poly) (es : ℕ) → Derived k is es ps → (a : ℕ) → AllZero k a is → (b : ℕ) × DifferOnlyAt es a b × AllZero k b ps
 
 -- ---- an accepted text: its inputs force its goal, and extension variables alone can be changed so that all it introduced is zero
 pub record Sound (sts : List Statement) (k : ℕ) : Type 0 where
@@ -59,3 +58,31 @@ pub record Counted (a : Answer) (h : List Statement) (k : ℕ) : Type 0 where
 abbrev pub CountsAreSums : Type 0
 CountsAreSums = (text : Bytes) (pool scratch : ℕ) → (answer text pool scratch .verdict ≡ SHORT → ⊥) → (answer text pool scratch .verdict ≡ LONGTEXT → ⊥)
     → Counted (answer text pool scratch) (accepted text pool) (ringIn (accepted text pool))
+
+-- ---- the code: the contract `Checked` decides the six numbers and both rooms afterwards, and what it accepts is sound
+abbrev pub Decided : Type 0
+Decided = (text : Bytes) (pool scratch : List ℕ) (a b : code.Answer) (p q r s : List ℕ) → Checked text pool scratch a p q → Checked text pool scratch b r s
+    → (a ≡ b) × (p ≡ r) × (q ≡ s)
+
+abbrev pub CheckedIsSound : Type 0
+CheckedIsSound = (text : Bytes) (pool scratch : List ℕ) (a : code.Answer) (p q : List ℕ) → Checked text pool scratch a p q → a .verdict ≡ ACCEPTED
+    → Sound (statements text) (ringIn (statements text))
+
+-- ---- spelling: s is a whole field, and p is what it means at k
+pub record ReadsAs (k : ℕ) (s : Bytes) (p : Poly) : Type 0 where
+  pub field : Written
+  pub reads : wholeField s ≡ got field []
+  pub means : reduced k field ≡ p
+
+-- reading a spelling gives back the polynomial that it came from
+abbrev pub ReadBack : Type 0
+ReadBack = (k : ℕ) (p : Poly) → Reduced k (2 ^ variables) p → ReadsAs k (spell k p) p
+
+-- the spelling of a field, read and spelled again, is the same
+abbrev pub SpelledTwice : Type 0
+SpelledTwice = (k : ℕ) (f g : Written) → inRange f ≡ true → wholeField (spell k (reduced k f)) ≡ got g [] → spell k (reduced k g) ≡ spell k (reduced k f)
+
+-- two fields have one spelling exactly when they agree at every 0/1 assignment
+abbrev pub OneSpelling : Type 0
+OneSpelling = (k : ℕ) (f g : Written) → inRange f ≡ true → inRange g ≡ true
+    → (spell k (reduced k f) ≡ spell k (reduced k g)) ↔ ((a : ℕ) → a < 2 ^ variables → value k a (map (asTerm k) f) ≡ value k a (map (asTerm k) g))

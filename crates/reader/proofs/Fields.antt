@@ -9,11 +9,8 @@ use native.Mathlib.Numerals.{add-one}
 use native.Mathlib.Omega.{arith}
 use lib.ListN.{length, take, drop, getD, length-drop}
 use lib.Seq.{drop-cons, drop-drop}
-use Rattle.paper.specs.Text.{Bytes, bytes}
-use Rattle.paper.specs.Reader.{Read, got, stuck, Reader, next, give, literal, end, each}
+use Rattle.paper.specs.Grammar.{Bytes, bytes, Read, got, stuck, Reader, next, give, literal, end, each, decimal, polynomial, tab, number, field, pair, kinds, beginsAlike, oneOf, stopShort, statement, Kind as LineKind}
 use Rattle.paper.specs.Statement.{Written, Pair, Statement, ring, input, goal, lin, del, ext}
-use Rattle.paper.specs.Grammar.{decimal, polynomial, tab, number, field, pair, kinds, beginsAlike, oneOf, stopShort, statement}
-use Rattle.paper.specs.Grammar.{Kind as LineKind}
 use Rattle.paper.proofs.Reading.{next-assoc, parted, Takes, literal-inside, takes-decimal, takes-polynomial, takes-pair, each-parts, each-more}
 use Rattle.reader.specs.Places.{Got}
 use Rattle.reader.specs.Lines.{headed, morePairs, rings, inputs, goals, lins, dels, exts, kindOf}

@@ -13,12 +13,8 @@ use Rattle.ground.specs.Lists.{every, any}
 use Rattle.ground.proofs.Tests.{by-cond}
 use Rattle.limits.specs.Limits.{greatestRing, greatestIndex}
 use Rattle.limits.specs.Verdicts.{ACCEPTED, NUMBER, TERMS}
-use Rattle.paper.specs.Text.{Bytes, bytes}
-use Rattle.paper.specs.Reader.{Read, got, stuck, Reader, next, give, literal, end}
-use Rattle.paper.specs.Statement.{Written, Pair, Statement, ring, input, goal, lin, del, ext, newIndex, namedIndices, fields}
-use Rattle.paper.specs.Grammar.{decimal, polynomial, tab, number, field, pair, kinds, beginsAlike, oneOf, stopShort, statement}
-use Rattle.paper.specs.Grammar.{Kind as LineKind}
-use Rattle.paper.specs.Meaning.{within, isRing, isIndex, isVariable, inRange, numbersInRange, tooManyTerms}
+use Rattle.paper.specs.Grammar.{Bytes, bytes, Read, got, stuck, Reader, next, give, literal, end, decimal, polynomial, tab, number, field, pair, kinds, beginsAlike, oneOf, stopShort, statement, Kind as LineKind}
+use Rattle.paper.specs.Statement.{Written, Pair, Statement, ring, input, goal, lin, del, ext, newIndex, namedIndices, fields, within, isRing, isIndex, isVariable, inRange, numbersInRange, tooManyTerms}
 use Rattle.paper.proofs.Reading.{next-assoc}
 use Rattle.reader.specs.Places.{Got, Fails}
 use Rattle.reader.specs.Fields.{always, fewTerms, Scanned, Scans}

@@ -9,10 +9,8 @@ use lib.ListN.{length, drop, getD}
 use borrow.Author.Tests.{leb-true, ltb-true, lt-ltb, le-leb, lt-leb}
 use Rattle.ground.proofs.Tests.{bool-ext}
 use Rattle.limits.specs.Verdicts.{FORM}
-use Rattle.paper.specs.Text.{Bytes}
-use Rattle.paper.specs.Reader.{Reader, got}
-use Rattle.paper.specs.Grammar.{digits, decimal}
-use Rattle.paper.specs.Meaning.{within}
+use Rattle.paper.specs.Grammar.{Bytes, Reader, got, digits, decimal}
+use Rattle.paper.specs.Statement.{within}
 use Rattle.paper.proofs.Reading.{digits-more, digits-least}
 use Rattle.reader.specs.Places.{Got, Fails}
 use Rattle.reader.specs.Numbers.{TooLarge, DecimalIs, DigitsEnd, refusalOf, InRange, OutOfRange, NumberIs}

@@ -6,8 +6,7 @@ use Prim.Native.Nat.{ℕ, _+_, _≤_, _<_}
 use native.Mathlib.Omega.{arith}
 use lib.ListN.{length, drop, getD, length-drop}
 use Rattle.ground.specs.Lists.{every}
-use Rattle.paper.specs.Text.{Bytes}
-use Rattle.paper.specs.Reader.{Read, got, stuck, Reader, next, give, each}
+use Rattle.paper.specs.Grammar.{Bytes, Read, got, stuck, Reader, next, give, each}
 use Rattle.paper.proofs.Reading.{next-assoc, Takes, after-length, each-more, each-stuck, every-append}
 use Rattle.reader.specs.Places.{Got, Fails}
 use Rattle.reader.specs.Fields.{Scanned, Scans}

@@ -13,8 +13,7 @@ use lib.Seq.{drop-cons, drop-drop, take-suc, take-all, getD-drop}
 use borrow.Author.Tests.{ltb-true, ltb-false, eqb-false, ne-eqb, not-true}
 use Rattle.ground.specs.Lists.{every}
 use Rattle.ground.proofs.Tests.{split, and-left, and-right, and-both}
-use Rattle.paper.specs.Text.{Bytes, onFirst, lines}
-use Rattle.paper.specs.Reader.{got}
+use Rattle.paper.specs.Grammar.{Bytes, onFirst, lines, got}
 use Rattle.paper.proofs.Reading.{every-append, inField, takes-polynomial}
 use Rattle.reader.specs.Places.{part}
 use Rattle.reader.specs.Search.{FirstAt, LineEnd, EndsField, WholeField, FieldEnd}

@@ -7,11 +7,8 @@ use Prim.Native.Char.{code}
 use lib.Dec.{ltb}
 use lib.ListN.{length}
 use Rattle.limits.specs.Limits.{fieldTerms}
-use Rattle.paper.specs.Text.{Bytes}
-use Rattle.paper.specs.Reader.{Reader, each}
-use Rattle.paper.specs.Statement.{WrittenTerm, Written}
-use Rattle.paper.specs.Grammar.{decimal, sign, term}
-use Rattle.paper.specs.Meaning.{tooManyTerms}
+use Rattle.paper.specs.Grammar.{Bytes, Reader, each, decimal, sign, term}
+use Rattle.paper.specs.Statement.{WrittenTerm, Written, tooManyTerms}
 use Rattle.reader.specs.Places.{Got, Fails}
 use Rattle.reader.specs.declared.field.FieldScan.{FieldScan}
 use Rattle.reader.specs.declared.field.FieldScan.the-variants.{Field, Stuck}

@@ -8,12 +8,8 @@ use lib.Dec.{ltb}
 use lib.ListN.{length, drop}
 use Rattle.ground.specs.Lists.{any}
 use Rattle.limits.specs.Verdicts.{ACCEPTED, NUMBER, TERMS}
-use Rattle.paper.specs.Text.{Bytes, bytes}
-use Rattle.paper.specs.Reader.{got, stuck, Reader, next, _>>=_, _>>_, give, literal, each}
-use Rattle.paper.specs.Statement.{Pair, Statement, ring, input, goal, lin, del, ext, cases, fields}
-use Rattle.paper.specs.Grammar.{tab, number, field, pair, kind, statement}
-use Rattle.paper.specs.Grammar.{Kind as LineKind}
-use Rattle.paper.specs.Meaning.{isIndex, inRange, numbersInRange, tooManyTerms}
+use Rattle.paper.specs.Grammar.{Bytes, bytes, got, stuck, Reader, next, _>>=_, _>>_, give, literal, each, tab, number, field, pair, kind, statement, Kind as LineKind}
+use Rattle.paper.specs.Statement.{Pair, Statement, ring, input, goal, lin, del, ext, cases, fields, isIndex, inRange, numbersInRange, tooManyTerms}
 use Rattle.reader.specs.Fields.{fewTerms}
 use Rattle.reader.specs.declared.field.FieldScan.{FieldScan}
 use Rattle.reader.specs.declared.field.FieldScan.the-variants.{Field, Stuck as Stopped}

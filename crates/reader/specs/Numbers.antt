@@ -5,10 +5,8 @@ use mathlib.Core.Logic.{_⊎_}
 use Prim.Native.Nat.{ℕ, _^_, _≤_}
 use lib.ListN.{length, drop}
 use Rattle.limits.specs.Verdicts.{FORM, NUMBER}
-use Rattle.paper.specs.Text.{Bytes}
-use Rattle.paper.specs.Reader.{Reader, got}
-use Rattle.paper.specs.Grammar.{digits, decimal}
-use Rattle.paper.specs.Meaning.{within}
+use Rattle.paper.specs.Grammar.{Bytes, Reader, got, digits, decimal}
+use Rattle.paper.specs.Statement.{within}
 use Rattle.reader.specs.Places.{Got, Fails}
 use Rattle.reader.specs.declared.number.Decimal.{Decimal}
 use Rattle.reader.specs.declared.number.Decimal.the-variants.{Value, Large, Stuck}

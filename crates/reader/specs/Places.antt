@@ -2,8 +2,7 @@
 use mathlib.Core.Path.{_≡_}
 use Prim.Native.Nat.{ℕ, _-_, _≤_}
 use lib.ListN.{length, take, drop}
-use Rattle.paper.specs.Text.{Bytes}
-use Rattle.paper.specs.Reader.{Reader, got, stuck}
+use Rattle.paper.specs.Grammar.{Bytes, Reader, got, stuck}
 
 -- the bytes from a place up to another
 abbrev pub part : Bytes → ℕ → ℕ → Bytes

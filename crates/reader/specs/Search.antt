@@ -7,10 +7,8 @@ use Prim.Native.Char.{code}
 use lib.Dec.{eqb}
 use lib.ListN.{length, drop, getD}
 use Rattle.ground.specs.Lists.{every}
-use Rattle.paper.specs.Text.{Bytes, lines}
-use Rattle.paper.specs.Reader.{got}
+use Rattle.paper.specs.Grammar.{Bytes, lines, got, polynomial}
 use Rattle.paper.specs.Statement.{Written}
-use Rattle.paper.specs.Grammar.{polynomial}
 use Rattle.reader.specs.Places.{part, Got}
 
 -- r is the place of the first b from at on, or the length

@@ -7,7 +7,7 @@ ghost use Prim.Native.Nat.{_≤_};
 ghost use lib.ListN.{length};
 ghost use Rattle.ground.specs.Lists.{every};
 ghost use Rattle.paper.specs.Grammar.{decimal, term, polynomial};
-ghost use Rattle.paper.specs.Meaning.{within, isVariable, isTerm, inRange};
+ghost use Rattle.paper.specs.Statement.{within, isVariable, isTerm, inRange};
 ghost use Rattle.reader.specs.Fields.{moreVariables, moreTerms, always, fewTerms, fewMore, Scans, Signed};
 
 // The end of a field, whether its numbers are in range, and whether it has few enough terms; or the place where it stops.

@@ -8,9 +8,8 @@ ghost use mathlib.Core.Bool.{true};
 ghost use Prim.Native.Nat.{_≤_};
 ghost use lib.ListN.{length};
 ghost use Rattle.ground.specs.Lists.{every};
-ghost use Rattle.paper.specs.Reader.{literal};
-ghost use Rattle.paper.specs.Grammar.{number, field, pair};
-ghost use Rattle.paper.specs.Meaning.{within, isIndex, inRange, numbersInRange};
+ghost use Rattle.paper.specs.Grammar.{literal, number, field, pair};
+ghost use Rattle.paper.specs.Statement.{within, isIndex, inRange, numbersInRange};
 ghost use Rattle.reader.specs.Fields.{always, fewTerms, Scans};
 ghost use Rattle.reader.specs.Lines.{behind, pairRanged, pairFew, morePairs, pairs, fewInFields, headed, rings, inputs, goals, lins, dels, exts, verdictOf, closedOf, LineIs};
 

@@ -6,14 +6,13 @@ use Prim.Native.Nat.{ℕ, _+_, _-_, _*_, _≤_, _<_}
 use native.Mathlib.Omega.{arith}
 use lib.ListN.{length, take, drop, getD}
 use Rattle.ground.specs.Lists.{any}
-use Rattle.ground.specs.Parts.{part}
-use Rattle.ground.proofs.Parts.{part-rest}
+use Rattle.words.specs.Parts.{part}
+use Rattle.words.proofs.Parts.{part-rest}
 use Rattle.limits.specs.Limits.{termWords}
 use Rattle.algebra.specs.Polynomial.{Poly, equal}
 use Rattle.terms.specs.Terms.{decode}
 use Rattle.terms.proofs.Decode.{decode-part}
-use Rattle.paper.specs.State.{Entry, Store}
-use Rattle.paper.specs.Rules.{holdsGoal}
+use Rattle.paper.specs.Rules.{Entry, Store, holdsGoal}
 use Rattle.table.specs.Table.{firsts, polyAt, entryAt, PackedColumns}
 use Rattle.table.proofs.Firsts.{behind, firsts-more, firsts-split}
 use Rattle.table.proofs.Packing.{ends-used}

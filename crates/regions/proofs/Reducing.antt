@@ -11,10 +11,9 @@ use lib.ListN.{length, drop}
 use lib.Seq.{paste}
 use borrow.Author.Tests.{not-true, ltb-false}
 use borrow.Rule.Slice.PartMut.{putMid}
-use Rattle.ground.specs.Congruence.{Same}
-use Rattle.ground.specs.Parts.{part, Within}
-use Rattle.ground.proofs.Congruence.{same-refl, same-eq, same-add, _⊳_}
-use Rattle.ground.proofs.Parts.{within-trans, within-wider, length-part, put-part, put-within}
+use Rattle.ground.proofs.Congruence.{Same, same-refl, same-eq, same-add, _⊳_}
+use Rattle.words.specs.Parts.{part, Within}
+use Rattle.words.proofs.Parts.{within-trans, within-wider, length-part, put-part, put-within}
 use Rattle.ground.proofs.Tests.{and-left, and-right}
 use Rattle.limits.specs.Limits.{fieldTerms, termWords}
 use Rattle.algebra.specs.Polynomial.{Term, Poly, keep, sumIf, reduce, minusOne, extension}
@@ -24,10 +23,8 @@ use Rattle.words.specs.Words.{number}
 use Rattle.words.proofs.Wrap.{same-negative}
 use Rattle.terms.specs.Terms.{termOf, decode, Leaves}
 use Rattle.terms.proofs.Decode.{decode-part, behind-within, decode-behind}
-use Rattle.paper.specs.Text.{Bytes}
-use Rattle.paper.specs.Statement.{Written}
-use Rattle.paper.specs.Grammar.{polynomial}
-use Rattle.paper.specs.Meaning.{inRange, tooManyTerms}
+use Rattle.paper.specs.Grammar.{Bytes, polynomial}
+use Rattle.paper.specs.Statement.{Written, inRange, tooManyTerms}
 use Rattle.reader.specs.Fields.{fewTerms}
 use Rattle.fields.specs.Fields.{Good, isField, FieldAt}
 use Rattle.fields.specs.declared.FieldRun.{FieldRun}

@@ -10,8 +10,8 @@ use lib.ListN.{length, take, drop}
 use lib.Seq.{drop-drop}
 use borrow.Author.Tests.{ltb-true, ltb-false}
 use borrow.Rule.Slice.PartMut.{putMid}
-use Rattle.ground.specs.Parts.{part, Within}
-use Rattle.ground.proofs.Parts.{within-refl, within-trans, within-wider, above-kept}
+use Rattle.words.specs.Parts.{part, Within}
+use Rattle.words.proofs.Parts.{within-refl, within-trans, within-wider, above-kept}
 use Rattle.ground.proofs.Tests.{split}
 use Rattle.limits.specs.Limits.{lineProducts, termWords}
 use Rattle.algebra.specs.Polynomial.{Term, Poly, times, products, equal, reduce, product}

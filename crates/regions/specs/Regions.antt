@@ -3,14 +3,12 @@ use mathlib.Core.Path.{_≡_}
 use mathlib.Core.List.{List}
 use Prim.Native.Nat.{ℕ, _+_, _*_, _≤_}
 use lib.ListN.{drop}
-use Rattle.ground.specs.Parts.{Within}
+use Rattle.words.specs.Parts.{Within}
 use Rattle.limits.specs.Limits.{fieldTerms, lineProducts, termWords}
 use Rattle.algebra.specs.Polynomial.{Poly}
 use Rattle.terms.specs.Terms.{decode}
-use Rattle.paper.specs.Text.{Bytes}
-use Rattle.paper.specs.Statement.{Written}
-use Rattle.paper.specs.Grammar.{polynomial}
-use Rattle.paper.specs.Meaning.{reduced}
+use Rattle.paper.specs.Grammar.{Bytes, polynomial}
+use Rattle.paper.specs.Statement.{Written, reduced}
 use Rattle.reader.specs.Places.{Got}
 use Rattle.fields.specs.declared.FieldRun.{FieldRun}
 

@@ -3,7 +3,7 @@ ghost use mathlib.Core.Path.{_≡_};
 ghost use mathlib.Core.List.{List};
 ghost use Prim.Native.Nat.{ℕ, _+_, _*_, _≤_, _<_};
 ghost use lib.ListN.{length, drop};
-ghost use Rattle.ground.specs.Parts.{Within};
+ghost use Rattle.words.specs.Parts.{Within};
 ghost use Rattle.limits.specs.Limits.{fieldTerms, lineProducts, termWords, variables, leastScratch};
 ghost use Rattle.algebra.specs.Polynomial.{equal, products, product, extension};
 ghost use Rattle.terms.specs.Terms.{decode, rounded, Leaves};

@@ -7,7 +7,7 @@ use native.Mathlib.Nat.{pow-le-pow-right, pow-suc}
 use native.Mathlib.Numerals.{add-one}
 use native.Mathlib.Omega.{arith}
 use lib.ListN.{length, set, length-append, length-set}
-use Rattle.paper.specs.Text.{Bytes}
+use Rattle.paper.specs.Grammar.{Bytes}
 use Rattle.paper.specs.Spelling.{spellNumber}
 use Rattle.paper.proofs.Numbers.{number-some, number-small, number-more, number-least, number-most}
 use Rattle.speller.specs.Writing.{written}

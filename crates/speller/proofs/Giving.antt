@@ -10,16 +10,13 @@ use lib.ListN.{length, drop, getD, replicate}
 use borrow.Author.Tests.{leb-true, leb-false, lt-ltb, le-ltb, ltb-false}
 use Rattle.limits.specs.Limits.{fieldTerms, termWords, lineBytes, leastSpellingScratch}
 use Rattle.limits.specs.Verdicts.{ACCEPTED, SHORT, LONGLINE, FULL}
-use Rattle.algebra.specs.Polynomial.{Poly, reduce}
-use Rattle.algebra.specs.Reduced.{Reduced}
+use Rattle.algebra.specs.Polynomial.{Poly, reduce, Reduced}
 use Rattle.algebra.proofs.Reduced.{reduced-reduce}
 use Rattle.algebra.proofs.Sums.{bound, below-bound}
 use Rattle.terms.specs.Terms.{decode, Leaves}
 use Rattle.terms.specs.Order.{none}
-use Rattle.paper.specs.Text.{Bytes}
-use Rattle.paper.specs.Statement.{Written}
-use Rattle.paper.specs.Grammar.{polynomial}
-use Rattle.paper.specs.Meaning.{tooManyTerms, asTerm, reduced}
+use Rattle.paper.specs.Grammar.{Bytes, polynomial}
+use Rattle.paper.specs.Statement.{Written, tooManyTerms, asTerm, reduced}
 use Rattle.paper.specs.Spelling.{Spelled, refuse, spell, spellRead, wholeField, spellField, outputAfter, scratchAfter}
 use Rattle.paper.proofs.Ranges.{cond-yes, cond-no}
 use Rattle.fields.specs.Worded.{worded}

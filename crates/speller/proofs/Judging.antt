@@ -10,12 +10,9 @@ use borrow.Author.Tests.{le-leb, lt-leb, leb-true, not-true, not-false}
 use Rattle.ground.proofs.Tests.{by-cond, and-left, and-right, and-both}
 use Rattle.limits.specs.Limits.{greatestRing}
 use Rattle.limits.specs.Verdicts.{ACCEPTED, SHORT, FORM, NUMBER, TERMS, FULL}
-use Rattle.paper.specs.Text.{Bytes}
-use Rattle.paper.specs.Reader.{Read, got, stuck, next, end}
-use Rattle.paper.specs.Statement.{Written}
-use Rattle.paper.specs.Verdict.{first}
-use Rattle.paper.specs.Grammar.{polynomial}
-use Rattle.paper.specs.Meaning.{isRing, inRange, tooManyTerms, reduced}
+use Rattle.paper.specs.Grammar.{Bytes, Read, got, stuck, next, end, polynomial}
+use Rattle.paper.specs.Statement.{Written, isRing, inRange, tooManyTerms, reduced}
+use Rattle.paper.specs.Rules.{first}
 use Rattle.paper.specs.Spelling.{Spelled, Request, refuse, spell, spellingOf, spellingRules, spellRequest, spellRead, wholeField}
 use Rattle.paper.proofs.ReadBack.{whole-end}
 use Rattle.reader.specs.Places.{Fails}

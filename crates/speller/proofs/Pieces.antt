@@ -11,7 +11,7 @@ use Rattle.limits.specs.Limits.{variables, setWords}
 use Rattle.algebra.specs.Sets.{members}
 use Rattle.words.specs.Words.{number, Lowest}
 use Rattle.words.proofs.Laws.{Words, members-lowest, members-none, members-drop}
-use Rattle.paper.specs.Text.{Bytes}
+use Rattle.paper.specs.Grammar.{Bytes}
 use Rattle.paper.specs.Spelling.{spellNumber}
 use Rattle.paper.proofs.Numbers.{number-most}
 use Rattle.speller.specs.Writing.{dotted}

@@ -10,7 +10,7 @@ use lib.ListN.{length, drop, getD, length-append, drop-of-length-le}
 use lib.Pow.{pow-mono}
 use lib.Seq.{drop-cons}
 use Rattle.ground.specs.Lists.{gather, total}
-use Rattle.ground.specs.Parts.{part}
+use Rattle.words.specs.Parts.{part}
 use Rattle.ground.proofs.Tests.{by-cond}
 use Rattle.limits.specs.Limits.{setWords, termWords, variables}
 use Rattle.algebra.specs.Sets.{members}
@@ -19,7 +19,7 @@ use Rattle.words.specs.Words.{number}
 use Rattle.terms.specs.Terms.{termOf, decode}
 use Rattle.terms.specs.Order.{none}
 use Rattle.terms.proofs.Decode.{decode-at, decode-length}
-use Rattle.paper.specs.Text.{Bytes, bytes}
+use Rattle.paper.specs.Grammar.{Bytes, bytes}
 use Rattle.paper.specs.Spelling.{spellCoefficient, spellTerm, spell}
 use Rattle.paper.proofs.Numbers.{number-most}
 use Rattle.speller.specs.Writing.{dotted, spaced, Cut, termRoom, room}

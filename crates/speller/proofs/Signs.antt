@@ -8,10 +8,9 @@ use native.Mathlib.Nat.{one-mul, mul-mod-left, mod-self, mod-lt}
 use native.Mathlib.Omega.{arith}
 use lib.Pow.{pow-pos, pow-add, shl-exact}
 use borrow.Author.Tests.{le-leb, lt-leb}
-use Rattle.ground.specs.Congruence.{Same}
-use Rattle.ground.proofs.Congruence.{same-refl, same-eq, same-mod, same-cancel, same-lt, _⊳_}
+use Rattle.ground.proofs.Congruence.{Same, same-refl, same-eq, same-mod, same-cancel, same-lt, _⊳_}
 use Rattle.words.proofs.Wrap.{same-cut}
-use Rattle.paper.specs.Text.{Bytes}
+use Rattle.paper.specs.Grammar.{Bytes}
 use Rattle.paper.specs.Spelling.{spellNumber, spellCoefficient}
 use Rattle.paper.proofs.Ranges.{cond-yes, cond-no}
 use Rattle.speller.specs.Writing.{spellSigned}

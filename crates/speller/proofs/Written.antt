@@ -7,7 +7,7 @@ use native.Mathlib.Numerals.{add-one}
 use native.Mathlib.Omega.{arith}
 use lib.ListN.{length, take, drop, set, length-append, length-drop, take-append-drop}
 use lib.Seq.{length-take-le, take-at, drop-at, take-take, take-append-le, drop-drop, set-split}
-use Rattle.paper.specs.Text.{Bytes}
+use Rattle.paper.specs.Grammar.{Bytes}
 use Rattle.speller.specs.Writing.{written, Wrote}
 
 pub written-none : (d : Bytes) (at : ℕ) → written d at [] ≡ d

@@ -8,11 +8,8 @@ use lib.ListN.{length}
 use Rattle.limits.specs.Limits.{fieldTerms}
 use Rattle.limits.specs.Verdicts.{ACCEPTED, FULL}
 use Rattle.terms.specs.Terms.{decode}
-use Rattle.paper.specs.Text.{Bytes}
-use Rattle.paper.specs.Reader.{got}
-use Rattle.paper.specs.Statement.{Written}
-use Rattle.paper.specs.Grammar.{polynomial}
-use Rattle.paper.specs.Meaning.{isRing, reduced}
+use Rattle.paper.specs.Grammar.{Bytes, got, polynomial}
+use Rattle.paper.specs.Statement.{Written, isRing, reduced}
 use Rattle.paper.specs.Spelling.{Spelled, refuse, spellRead, wholeField, spellField, outputAfter, scratchAfter}
 use Rattle.fields.specs.Fields.{isField}
 use Rattle.speller.specs.declared.Spelled.{Spelled as Answer}

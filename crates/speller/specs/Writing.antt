@@ -10,7 +10,7 @@ use Rattle.limits.specs.Limits.{variables}
 use Rattle.algebra.specs.Sets.{members}
 use Rattle.algebra.specs.Polynomial.{Term, Poly}
 use Rattle.terms.specs.Order.{none}
-use Rattle.paper.specs.Text.{Bytes}
+use Rattle.paper.specs.Grammar.{Bytes}
 use Rattle.paper.specs.Spelling.{spellNumber, spellTerm}
 use Rattle.speller.specs.declared.sign.Signed.{Signed}
 

@@ -7,11 +7,9 @@ use native.Mathlib.Omega.{arith}
 use lib.Dec.{eqb}
 use borrow.Author.Tests.{eqb-true, eq-eqb, ne-eqb, not-false}
 use Rattle.limits.specs.Verdicts.{ORDER, TAKEN}
-use Rattle.paper.specs.Verdict.{first}
-use Rattle.paper.specs.Text.{Bytes}
+use Rattle.paper.specs.Rules.{first, stored, rules}
+use Rattle.paper.specs.Grammar.{Bytes}
 use Rattle.paper.specs.Statement.{Statement}
-use Rattle.paper.specs.State.{stored}
-use Rattle.paper.specs.Rules.{rules}
 use Rattle.paper.proofs.Steps.{caseOf}
 use Rattle.table.specs.declared.Table.{Table}
 use Rattle.table.specs.Table.{firsts, entryAt}

@@ -7,12 +7,9 @@ use native.Mathlib.Nat.{zero-add, add-zero}
 use lib.Bits.{bitOr, or-zero-l, or-zero-r}
 use lib.ListN.{length}
 use Rattle.ground.specs.Lists.{any, total}
-use Rattle.algebra.specs.Polynomial.{Poly, vars, equal, extension}
-use Rattle.algebra.specs.Derivation.{allVars}
-use Rattle.paper.specs.Statement.{Written, Pair, ring, input, goal, lin, del, ext, fields}
-use Rattle.paper.specs.Meaning.{reduced}
-use Rattle.paper.specs.State.{modulo, bits, inputs, steps, State, find, remove}
-use Rattle.paper.specs.Rules.{defines, entries, makesSeen, productCount, holdsGoal, after}
+use Rattle.algebra.specs.Polynomial.{Poly, vars, equal, extension, allVars}
+use Rattle.paper.specs.Statement.{Written, Pair, ring, input, goal, lin, del, ext, fields, reduced}
+use Rattle.paper.specs.Rules.{modulo, bits, inputs, steps, State, find, remove, defines, entries, makesSeen, productCount, holdsGoal, after}
 use Rattle.steps.specs.Parts.{only}
 
 module _ (s : State) where

@@ -9,8 +9,8 @@ use lib.ListN.{length, drop}
 use borrow.Author.Tests.{lt-ltb, le-ltb}
 use borrow.Rule.Slice.PartMut.{putMid}
 use Rattle.ground.specs.Lists.{every}
-use Rattle.ground.specs.Parts.{part, Within}
-use Rattle.ground.proofs.Parts.{drop-more}
+use Rattle.words.specs.Parts.{part, Within}
+use Rattle.words.proofs.Parts.{drop-more}
 use Rattle.limits.specs.Limits.{greatestRing, fieldTerms, lineProducts}
 use Rattle.limits.specs.Verdicts.{MISSING, SEEN, PRODUCTS, MISMATCH, NOTBIT}
 use Rattle.algebra.specs.Sets.{has}
@@ -21,8 +21,7 @@ use Rattle.terms.specs.Terms.{decode, Leaves}
 use Rattle.terms.proofs.Decode.{decode-length, decode-part, decode-above}
 use Rattle.terms.proofs.Rounding.{reduce-rounded}
 use Rattle.paper.specs.Statement.{Pair}
-use Rattle.paper.specs.State.{Store, stored, find}
-use Rattle.paper.specs.Rules.{combination}
+use Rattle.paper.specs.Rules.{Store, stored, find, combination}
 use Rattle.regions.specs.Regions.{statedAt, factorAt, goalAt, StatedIs}
 use Rattle.regions.proofs.Reducing.{lent-run, lent-within}
 use Rattle.pairs.specs.declared.Sum.{Sum}

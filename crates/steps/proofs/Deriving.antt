@@ -9,23 +9,18 @@ use lib.Dec.{ltb}
 use lib.ListN.{length, drop}
 use borrow.Author.Tests.{ltb-false}
 use Rattle.ground.specs.Lists.{every}
-use Rattle.ground.proofs.Parts.{drop-more}
+use Rattle.words.proofs.Parts.{drop-more}
 use Rattle.limits.specs.Limits.{lineProducts}
 use Rattle.limits.specs.Verdicts.{MISSING, SEEN, PRODUCTS, MISMATCH, NOTBIT}
 use Rattle.algebra.specs.Sets.{has}
-use Rattle.algebra.specs.Polynomial.{Poly, vars, equal, reduce, product, extension}
-use Rattle.algebra.specs.Derivation.{allVars}
+use Rattle.algebra.specs.Polynomial.{Poly, vars, equal, reduce, product, extension, allVars}
 use Rattle.algebra.proofs.Unions.{or-assoc}
 use Rattle.words.specs.Words.{number}
 use Rattle.terms.specs.Terms.{decode}
 use Rattle.terms.proofs.Decode.{decode-length}
-use Rattle.paper.specs.Verdict.{first}
-use Rattle.paper.specs.Text.{Bytes}
-use Rattle.paper.specs.Statement.{Written, Pair, lin, ext}
-use Rattle.paper.specs.Grammar.{decimal}
-use Rattle.paper.specs.Meaning.{reduced}
-use Rattle.paper.specs.State.{modulo, steps, stored, find}
-use Rattle.paper.specs.Rules.{rules, combination}
+use Rattle.paper.specs.Rules.{first, modulo, steps, stored, find, rules, combination}
+use Rattle.paper.specs.Grammar.{Bytes, decimal}
+use Rattle.paper.specs.Statement.{Written, Pair, lin, ext, reduced}
 use Rattle.paper.proofs.Steps.{caseOf}
 use Rattle.reader.specs.Places.{Got}
 use Rattle.reader.specs.declared.line.Kind.the-variants.{Lin, Ext}

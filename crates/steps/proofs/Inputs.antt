@@ -8,17 +8,14 @@ use lib.Bits.{bitOr}
 use lib.Dec.{eqb}
 use lib.ListN.{drop}
 use borrow.Author.Tests.{eq-eqb, ne-eqb}
-use Rattle.ground.proofs.Parts.{drop-more}
+use Rattle.words.proofs.Parts.{drop-more}
 use Rattle.limits.specs.Verdicts.{ORDER}
 use Rattle.algebra.specs.Polynomial.{Poly, vars}
 use Rattle.words.specs.Words.{number}
 use Rattle.terms.specs.Terms.{decode}
-use Rattle.paper.specs.Text.{Bytes}
-use Rattle.paper.specs.Statement.{Written, goal}
-use Rattle.paper.specs.Grammar.{decimal}
-use Rattle.paper.specs.Meaning.{reduced}
-use Rattle.paper.specs.State.{modulo, inputs, steps, stored}
-use Rattle.paper.specs.Rules.{holdsGoal, after}
+use Rattle.paper.specs.Grammar.{Bytes, decimal}
+use Rattle.paper.specs.Statement.{Written, goal, reduced}
+use Rattle.paper.specs.Rules.{modulo, inputs, steps, stored, holdsGoal, after}
 use Rattle.reader.specs.Places.{Got}
 use Rattle.reader.specs.declared.line.Kind.the-variants.{Input, Goal}
 use Rattle.fields.specs.declared.FieldRun.{FieldRun}

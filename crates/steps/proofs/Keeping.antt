@@ -8,15 +8,14 @@ use lib.Dec.{leb, ltb}
 use lib.ListN.{length, drop}
 use lib.Seq.{paste}
 use borrow.Author.Tests.{le-leb, lt-leb, lt-ltb, le-ltb}
-use Rattle.ground.specs.Parts.{Within}
-use Rattle.ground.proofs.Parts.{paste-within}
+use Rattle.words.specs.Parts.{Within}
+use Rattle.words.proofs.Parts.{paste-within}
 use Rattle.limits.specs.Limits.{storedPolynomials, termWords}
 use Rattle.limits.specs.Verdicts.{FULL}
 use Rattle.algebra.specs.Polynomial.{Poly}
 use Rattle.terms.specs.Terms.{decode}
 use Rattle.terms.proofs.Decode.{decode-length, decode-paste}
-use Rattle.paper.specs.State.{Store, modulo}
-use Rattle.paper.specs.Rules.{overfull}
+use Rattle.paper.specs.Rules.{Store, modulo, overfull}
 use Rattle.table.specs.declared.Table.{Table}
 use Rattle.table.specs.Table.{storeOf, Fitting}
 use Rattle.table.specs.Steps.{Pushed}

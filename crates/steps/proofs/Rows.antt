@@ -13,11 +13,8 @@ use Rattle.limits.specs.Limits.{lineProducts}
 use Rattle.limits.specs.Verdicts.{ACCEPTED, ORDER, TAKEN, MISSING, SEEN, PRODUCTS, MISMATCH, NOTBIT, FULL}
 use Rattle.algebra.specs.Sets.{has}
 use Rattle.algebra.specs.Polynomial.{vars, equal, reduce, product, extension}
-use Rattle.paper.specs.Verdict.{first}
-use Rattle.paper.specs.Statement.{Written, Pair, ring, input, goal, lin, del, ext, newIndex, namedIndices, fields}
-use Rattle.paper.specs.Meaning.{numbersInRange, tooManyTerms, reduced}
-use Rattle.paper.specs.State.{opening, inputs, steps, State, stored, find}
-use Rattle.paper.specs.Rules.{Case, ringOf, rules, place, entries, productCount, combination, clashes, differs, noBit, overfull}
+use Rattle.paper.specs.Rules.{first, opening, inputs, steps, State, stored, find, Case, ringOf, rules, place, entries, productCount, combination, clashes, differs, noBit, overfull}
+use Rattle.paper.specs.Statement.{Written, Pair, ring, input, goal, lin, del, ext, newIndex, namedIndices, fields, numbersInRange, tooManyTerms, reduced}
 use Rattle.paper.proofs.Steps.{caseOf}
 use Rattle.steps.specs.Parts.{admits, sums, extends, fits, only}
 

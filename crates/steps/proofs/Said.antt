@@ -11,11 +11,8 @@ use borrow.Author.Tests.{leb-true, le-leb, lt-ltb}
 use Rattle.ground.specs.Lists.{every, any}
 use Rattle.ground.proofs.Tests.{and-left, and-right, and-both}
 use Rattle.limits.specs.Limits.{variables, greatestRing, greatestIndex}
-use Rattle.paper.specs.Text.{Bytes}
-use Rattle.paper.specs.Reader.{Reader, got}
-use Rattle.paper.specs.Statement.{Written, Pair, Statement, ring, input, goal, lin, del, ext, fields}
-use Rattle.paper.specs.Grammar.{decimal, polynomial, statement}
-use Rattle.paper.specs.Meaning.{within, isRing, isIndex, isVariable, inRange, numbersInRange, tooManyTerms}
+use Rattle.paper.specs.Grammar.{Bytes, Reader, got, decimal, polynomial, statement}
+use Rattle.paper.specs.Statement.{Written, Pair, Statement, ring, input, goal, lin, del, ext, fields, within, isRing, isIndex, isVariable, inRange, numbersInRange, tooManyTerms}
 use Rattle.reader.specs.Places.{Got}
 use Rattle.reader.specs.Fields.{fewTerms}
 use Rattle.reader.specs.Lines.{morePairs, pairRanged, pairFew, kindOf}

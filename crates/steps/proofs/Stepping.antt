@@ -12,12 +12,10 @@ use Rattle.limits.specs.Verdicts.{ORDER, MISSING}
 use Rattle.algebra.specs.Polynomial.{Poly}
 use Rattle.words.specs.Words.{number}
 use Rattle.terms.specs.Terms.{decode}
-use Rattle.paper.specs.Verdict.{first}
-use Rattle.paper.specs.Text.{Bytes}
+use Rattle.paper.specs.Rules.{first, Store, modulo, opening, inputs, steps, bits, stored, remove, start, rules, after}
+use Rattle.paper.specs.Grammar.{Bytes}
 use Rattle.paper.specs.Statement.{Statement, ring, del}
-use Rattle.paper.specs.State as paper
-use Rattle.paper.specs.State.{Store, modulo, opening, inputs, steps, bits, stored, remove, start}
-use Rattle.paper.specs.Rules.{rules, after}
+use Rattle.paper.specs.Rules as paper
 use Rattle.paper.proofs.Store.{Distinct, distinct-append, distinct-remove}
 use Rattle.paper.proofs.Steps.{caseOf}
 use Rattle.fields.proofs.Taking.{same-value}

@@ -7,14 +7,11 @@ use lib.ListN.{length, drop}
 use Rattle.ground.specs.Lists.{every}
 use Rattle.limits.specs.Limits.{fieldTerms, lineProducts}
 use Rattle.algebra.specs.Sets.{has}
-use Rattle.algebra.specs.Polynomial.{Poly, vars, equal, reduce, product, extension}
-use Rattle.algebra.specs.Derivation.{allVars}
+use Rattle.algebra.specs.Polynomial.{Poly, vars, equal, reduce, product, extension, allVars}
 use Rattle.words.specs.Words.{number}
 use Rattle.terms.specs.Terms.{decode}
-use Rattle.paper.specs.Statement.{Pair}
-use Rattle.paper.specs.State.{Store, stored, find}
-use Rattle.paper.specs.Meaning.{reduced}
-use Rattle.paper.specs.Rules.{combination}
+use Rattle.paper.specs.Statement.{Pair, reduced}
+use Rattle.paper.specs.Rules.{Store, stored, find, combination}
 use Rattle.regions.specs.Regions.{statedAt, goalAt}
 use Rattle.pairs.specs.Pairs.{productsOf}
 use Rattle.steps.specs.declared.check.Checked.{Checked}

@@ -9,9 +9,8 @@ use Rattle.limits.specs.Limits.{greatestIndex, lineProducts}
 use Rattle.limits.specs.Verdicts.{ACCEPTED, ORDER, TAKEN, MISSING, SEEN, PRODUCTS, MISMATCH, NOTBIT, FULL}
 use Rattle.algebra.specs.Polynomial.{Poly}
 use Rattle.words.specs.Words.{number}
-use Rattle.paper.specs.State as paper
-use Rattle.paper.specs.State.{Store}
-use Rattle.paper.specs.Rules.{overfull}
+use Rattle.paper.specs.Rules as paper
+use Rattle.paper.specs.Rules.{Store, overfull}
 use Rattle.table.specs.Table.{storeOf, Fitting}
 use Rattle.steps.specs.declared.state.State.{State}
 use Rattle.steps.specs.declared.state.Step.{Step}

@@ -6,8 +6,8 @@ use lib.ListN.{length, drop}
 use Rattle.limits.specs.Limits.{fieldTerms, lineProducts, greatestRing, mostPoolTerms, termWords, leastScratch}
 use Rattle.words.specs.Words.{number}
 use Rattle.terms.specs.Terms.{decode}
-use Rattle.paper.specs.State as paper
-use Rattle.paper.specs.State.{modulo, start}
+use Rattle.paper.specs.Rules as paper
+use Rattle.paper.specs.Rules.{modulo, start}
 use Rattle.paper.proofs.Store.{Distinct}
 use Rattle.table.specs.Table.{storeOf, Fitting}
 use Rattle.regions.specs.Regions.{goalAt}

@@ -6,13 +6,9 @@ use Prim.Native.Nat.{ℕ, _+_, _≤_}
 use lib.ListN.{length}
 use Rattle.ground.specs.Lists.{any}
 use Rattle.limits.specs.Limits.{textBytes}
-use Rattle.paper.specs.Verdict.{first}
-use Rattle.paper.specs.Text.{Bytes}
-use Rattle.paper.specs.Reader.{got}
-use Rattle.paper.specs.Statement.{Statement, fields}
-use Rattle.paper.specs.Grammar.{statement}
-use Rattle.paper.specs.Meaning.{numbersInRange, tooManyTerms}
-use Rattle.paper.specs.Rules.{rules, after}
+use Rattle.paper.specs.Rules.{first, rules, after}
+use Rattle.paper.specs.Grammar.{Bytes, got, statement}
+use Rattle.paper.specs.Statement.{Statement, fields, numbersInRange, tooManyTerms}
 use Rattle.reader.specs.declared.line.Kind.{Kind}
 use Rattle.reader.specs.Lines.{kindOf}
 use Rattle.steps.specs.declared.state.State.{State}

@@ -10,7 +10,7 @@ use lib.ListN.{length, length-append}
 use borrow.Author.Tests.{eq-eqb, ne-eqb}
 use Rattle.ground.specs.Lists.{any}
 use Rattle.ground.proofs.Tests.{or-none-left, or-none-right}
-use Rattle.paper.specs.State.{Entry, Store, stored, find, remove}
+use Rattle.paper.specs.Rules.{Entry, Store, stored, find, remove}
 use Rattle.paper.proofs.Store.{Distinct, stored-append, find-append}
 use Rattle.table.specs.Table.{firsts}
 

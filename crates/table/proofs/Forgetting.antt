@@ -9,14 +9,14 @@ use lib.Dec.{leb}
 use lib.ListN.{length, drop, getD, length-drop}
 use lib.Seq.{paste}
 use borrow.Author.Tests.{leb-true, leb-false}
-use Rattle.ground.specs.Parts.{part, Within}
-use Rattle.ground.proofs.Parts.{paste-within}
+use Rattle.words.specs.Parts.{part, Within}
+use Rattle.words.proofs.Parts.{paste-within}
 use Rattle.ground.proofs.Tests.{split}
 use Rattle.limits.specs.Limits.{termWords}
 use Rattle.algebra.specs.Polynomial.{Poly}
 use Rattle.terms.specs.Terms.{decode}
 use Rattle.terms.proofs.Decode.{decode-same}
-use Rattle.paper.specs.State.{Store, remove}
+use Rattle.paper.specs.Rules.{Store, remove}
 use Rattle.table.specs.Table.{firsts, polyAt, entryAt, termsBefore, PackedColumns}
 use Rattle.table.specs.Steps.{Closed, FirstAt}
 use Rattle.table.proofs.Firsts.{firsts-split, firsts-cut, behind, stored-none, remove-split}

@@ -7,12 +7,12 @@ use Prim.Native.Nat.{ℕ, zero, suc, _+_, _-_, _*_, _≤_, _<_}
 use native.Mathlib.Omega.{arith}
 use lib.ListN.{length, drop, getD}
 use Rattle.ground.specs.Lists.{total}
-use Rattle.ground.specs.Parts.{Within}
-use Rattle.ground.proofs.Parts.{below-kept}
+use Rattle.words.specs.Parts.{Within}
+use Rattle.words.proofs.Parts.{below-kept}
 use Rattle.limits.specs.Limits.{termWords, mostPoolTerms}
 use Rattle.algebra.specs.Polynomial.{Poly}
 use Rattle.terms.proofs.Decode.{decode-length, decode-same}
-use Rattle.paper.specs.State.{Entry, stored, find, storedTerms}
+use Rattle.paper.specs.Rules.{Entry, stored, find, storedTerms}
 use Rattle.paper.proofs.Store.{Distinct, terms-append}
 use Rattle.table.specs.declared.Found.{Found}
 use Rattle.table.specs.declared.Found.the-variants.{At, Nothing}

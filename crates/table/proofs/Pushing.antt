@@ -9,7 +9,7 @@ use lib.ListN.{length, drop, getD, set}
 use lib.Seq.{getD-set-same, getD-set-other}
 use Rattle.limits.specs.Limits.{storedPolynomials, termWords}
 use Rattle.terms.specs.Terms.{decode}
-use Rattle.paper.specs.State.{Entry, Store}
+use Rattle.paper.specs.Rules.{Entry, Store}
 use Rattle.table.specs.Table.{firsts, entryAt, termsBefore, PackedColumns}
 use Rattle.table.proofs.Firsts.{firsts-same, firsts-more}
 use Rattle.table.proofs.Packing.{before-more, before-same}

@@ -5,7 +5,7 @@ use Prim.Native.Nat.{ℕ, _+_, _-_, _*_, _≤_, _<_}
 use lib.ListN.{drop, getD}
 use Rattle.limits.specs.Limits.{storedPolynomials, termWords}
 use Rattle.terms.specs.Terms.{decode}
-use Rattle.paper.specs.State.{remove, start}
+use Rattle.paper.specs.Rules.{remove, start}
 use Rattle.table.specs.declared.Found.{Found}
 use Rattle.table.specs.declared.Found.the-variants.{At, Nothing}
 use Rattle.table.specs.declared.Table.{Table}

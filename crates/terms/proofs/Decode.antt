@@ -6,8 +6,8 @@ use native.Mathlib.Omega.{arith}
 use native.Mathlib.Nat.{suc-add, not-suc-le-zero, le-of-suc-le-suc}
 use lib.ListN.{length, take, drop, getD, set}
 use lib.Seq.{take-take, take-at, drop-at, getD-take, getD-drop, drop-drop, take-all, paste, take-paste, drop-paste, set-split}
-use Rattle.ground.specs.Parts.{part, Within}
-use Rattle.ground.proofs.Parts.{take-fewer, drop-more, drop-take, below-kept, part-paste, paste-within}
+use Rattle.words.specs.Parts.{part, Within}
+use Rattle.words.proofs.Parts.{take-fewer, drop-more, drop-take, below-kept, part-paste, paste-within}
 use Rattle.limits.specs.Limits.{setWords, termWords}
 use Rattle.algebra.specs.Polynomial.{Term, Poly}
 use Rattle.words.specs.Words.{number}

@@ -8,8 +8,8 @@ use lib.Dec.{eqb}
 use lib.ListN.{length, getD, take}
 use lib.Seq.{paste}
 use borrow.Author.Tests.{eq-eqb, ne-eqb}
-use Rattle.ground.specs.Parts.{part}
-use Rattle.ground.proofs.Parts.{within-refl, within-trans, within-wider, above-kept}
+use Rattle.words.specs.Parts.{part}
+use Rattle.words.proofs.Parts.{within-refl, within-trans, within-wider, above-kept}
 use Rattle.limits.specs.Limits.{setWords, termWords}
 use Rattle.algebra.specs.Polynomial.{Term, Poly, put, reduce}
 use Rattle.terms.specs.Terms.{termOf, decode, Leaves}

@@ -6,8 +6,8 @@ use native.Mathlib.Omega.{arith}
 use lib.Bits.{bitOr}
 use lib.ListN.{length, getD, take, drop}
 use lib.Seq.{drop-drop, paste}
-use Rattle.ground.specs.Parts.{part}
-use Rattle.ground.proofs.Parts.{within-refl, within-trans, within-wider, above-kept}
+use Rattle.words.specs.Parts.{part}
+use Rattle.words.proofs.Parts.{within-refl, within-trans, within-wider, above-kept}
 use Rattle.limits.specs.Limits.{setWords, termWords}
 use Rattle.algebra.specs.Polynomial.{Term, Poly, times}
 use Rattle.terms.specs.Terms.{termOf, decode, rounded, productOf, Appended}

@@ -9,7 +9,7 @@ use lib.Bits.{bitOr, or-zero-r}
 use lib.Dec.{eqb}
 use lib.ListN.{length, getD, drop, drop-of-length-le}
 use lib.Seq.{drop-cons}
-use Rattle.ground.specs.Parts.{part}
+use Rattle.words.specs.Parts.{part}
 use Rattle.limits.specs.Limits.{setWords, termWords}
 use Rattle.algebra.specs.Polynomial.{Poly, equal, vars}
 use Rattle.algebra.proofs.Unions.{vars-append}

@@ -9,8 +9,7 @@ use lib.Seq.{getD-take, length-take-le, take-suc}
 use borrow.Author.Tests.{ne-eqb, le-ltb}
 use Rattle.ground.proofs.Tests.{by-cond}
 use Rattle.ground.proofs.Congruence.{same-eq}
-use Rattle.algebra.specs.Polynomial.{Term, Poly, put, insert, reduce}
-use Rattle.algebra.specs.Reduced.{Reduced}
+use Rattle.algebra.specs.Polynomial.{Term, Poly, put, insert, reduce, Reduced}
 use Rattle.algebra.proofs.Reduced.{reduced-reduce}
 use Rattle.algebra.proofs.Sums.{bound, below-bound, reduce-sums}
 use Rattle.terms.specs.Order.{total, SameTerms, none, setAt, Falls}

@@ -1,3 +1,4 @@
+pub mod Parts
 pub mod Wrap
 pub mod Laws
 pub mod WordByWord

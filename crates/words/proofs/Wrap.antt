@@ -6,8 +6,7 @@ use native.Mathlib.Nat.{mul-comm, mul-assoc, mul-add, add-mul, div-add-mod', mul
 use native.Mathlib.Omega.{arith}
 use lib.Bits.{bitAnd, and-mask, mask-lt}
 use lib.Pow.{pow-pos, pow-add, mod-mod-pow, ones-split, ones-lt, high}
-use Rattle.ground.specs.Congruence.{Same}
-use Rattle.ground.proofs.Congruence.{same-refl, same-eq, same-sym, same-mod, same-add, same-mul, same-cancel, _⊳_}
+use Rattle.ground.proofs.Congruence.{Same, same-refl, same-eq, same-sym, same-mod, same-add, same-mul, same-cancel, _⊳_}
 
 module _ (k : ℕ) (h : k ≤ 64) where
   rest : 64 - k + k ≡ 64

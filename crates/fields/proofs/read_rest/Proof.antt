@@ -6,7 +6,7 @@ use native.Mathlib.Omega.{arith}
 use borrow.Author.Needs.{needs}
 use lib.ListN.{length}
 use Rattle.paper.specs.Grammar.{term}
-use Rattle.paper.specs.Meaning.{isTerm}
+use Rattle.paper.specs.Statement.{isTerm}
 use Rattle.paper.proofs.Reading.{takes-term, each-stop, each-end}
 use Rattle.reader.proofs.Scans.{Passed, passed-none, passed-more}
 use Rattle.fields.proofs.Taking.{following, following-length}

@@ -8,7 +8,7 @@ use borrow.Author.Needs.{needs}
 use lib.ListN.{length}
 use Rattle.words.specs.Words.{number}
 use Rattle.paper.specs.Grammar.{decimal}
-use Rattle.paper.specs.Meaning.{isVariable, setOf}
+use Rattle.paper.specs.Statement.{isVariable, setOf}
 use Rattle.paper.proofs.Reading.{takes-decimal, each-stop, each-end}
 use Rattle.reader.proofs.Scans.{Passed, passed-none, passed-more, passed-stop}
 use Rattle.fields.proofs.Taking.{following, good-weaken, variable-word, is-variable, same-value, no-variables, one-more}

@@ -5,7 +5,7 @@ use native.Mathlib.Omega.{arith}
 use lib.ListN.{length}
 use lib.Seq.{length-take-le}
 use borrow.Author.Needs.{needs}
-use Rattle.ground.proofs.Parts.{length-part}
+use Rattle.words.proofs.Parts.{length-part}
 use Rattle.regions.specs.Regions.{statedAt}
 use Rattle.regions.proofs.Goals.{front-equal}
 use Rattle.regions.proofs.Squares.{side}

@@ -4,7 +4,7 @@ use Prim.Native.Nat.{_+_, _-_, _*_, _≤_}
 use native.Mathlib.Omega.{arith}
 use lib.ListN.{length, getD}
 use borrow.Author.Needs.{needs}
-use Rattle.ground.proofs.Parts.{length-part}
+use Rattle.words.proofs.Parts.{length-part}
 use Rattle.limits.specs.Limits.{termWords}
 use Rattle.terms.specs.Terms.{decode}
 use Rattle.regions.proofs.Goals.{NoneIs, none-start, none-more, one-is, none-end, rest-equal, stored-words}

@@ -6,7 +6,7 @@ use borrow.Author.Needs.{needs}
 use lib.ListN.{length, drop, replicate, length-set, length-drop}
 use lib.Seq.{paste, getD-drop}
 use Rattle.limits.specs.Limits.{termWords}
-use Rattle.ground.proofs.Parts.{fill-more, fill-all}
+use Rattle.words.proofs.Parts.{fill-more, fill-all}
 use Rattle.terms.proofs.read_term.Statement.{statement}
 use Rattle.terms.proofs.read_term.Tie as tie
 

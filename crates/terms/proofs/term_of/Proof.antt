@@ -6,7 +6,7 @@ use borrow.Author.Needs.{needs}
 use lib.ListN.{length, replicate, length-set}
 use lib.Seq.{paste}
 use Rattle.limits.specs.Limits.{setWords, termWords}
-use Rattle.ground.proofs.Parts.{fill-more}
+use Rattle.words.proofs.Parts.{fill-more}
 use Rattle.terms.specs.Terms.{termOf}
 use Rattle.terms.proofs.Decode.{term-made}
 use Rattle.terms.proofs.term_of.Statement.{statement}

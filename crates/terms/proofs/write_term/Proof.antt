@@ -6,7 +6,7 @@ use borrow.Author.Needs.{needs}
 use lib.ListN.{length}
 use lib.Seq.{paste, paste-zero}
 use Rattle.limits.specs.Limits.{termWords}
-use Rattle.ground.proofs.Parts.{paste-more}
+use Rattle.words.proofs.Parts.{paste-more}
 use Rattle.terms.proofs.write_term.Statement.{statement}
 use Rattle.terms.proofs.write_term.Tie as tie
 

@@ -8,7 +8,7 @@ use lib.ListN.{length}
 use borrow.Author.Needs.{needs}
 use Rattle.ground.specs.Lists.{every}
 use Rattle.paper.specs.Grammar.{term}
-use Rattle.paper.specs.Meaning.{isTerm}
+use Rattle.paper.specs.Statement.{isTerm}
 use Rattle.paper.proofs.Reading.{takes-term, each-stop, each-end}
 use Rattle.reader.specs.Fields.{fewMore}
 use Rattle.reader.proofs.Scans.{scanned, pass-on, Passed, passed-none, passed-more, passed-stuck, passed-scans, every-none, every-more}

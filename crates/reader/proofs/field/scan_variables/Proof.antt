@@ -8,7 +8,7 @@ use lib.ListN.{length}
 use borrow.Author.Needs.{needs}
 use Rattle.ground.specs.Lists.{every}
 use Rattle.paper.specs.Grammar.{decimal}
-use Rattle.paper.specs.Meaning.{isVariable}
+use Rattle.paper.specs.Statement.{isVariable}
 use Rattle.paper.proofs.Reading.{takes-decimal, each-stop, each-end}
 use Rattle.reader.specs.Fields.{always}
 use Rattle.reader.proofs.Scans.{scanned, pass-on, Passed, passed-none, passed-more, passed-stuck, passed-scans, every-none, every-more}

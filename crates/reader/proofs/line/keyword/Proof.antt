@@ -5,7 +5,7 @@ use Prim.Native.Nat.{_≤_, _-_}
 use native.Mathlib.Omega.{arith}
 use lib.ListN.{length, drop}
 use borrow.Author.Needs.{needs}
-use Rattle.paper.specs.Reader.{literal}
+use Rattle.paper.specs.Grammar.{literal}
 use Rattle.reader.proofs.Lines.{literal-more, literal-not, literal-short, literal-all}
 use Rattle.reader.proofs.line.keyword.Statement.{statement}
 use Rattle.reader.proofs.line.keyword.Tie as tie

@@ -1,6 +1,6 @@
 -- `reader::line::scan_ext` meets its contract: a keyword, an index, a variable and a polynomial in a row. No loop.
 -- Assumes nothing.
-use Rattle.paper.specs.Text.{bytes}
+use Rattle.paper.specs.Grammar.{bytes}
 use Rattle.reader.proofs.Scans.{scanned, pass-on}
 use Rattle.reader.proofs.Lines.{ext-fails, ext-fails-variable, ext-fails-field, ext-scans}
 use borrow.Author.Needs.{needs}

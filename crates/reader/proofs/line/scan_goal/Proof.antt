@@ -1,6 +1,6 @@
 -- `reader::line::scan_goal` meets its contract: a keyword and a polynomial in a row. No loop.
 -- Assumes nothing.
-use Rattle.paper.specs.Text.{bytes}
+use Rattle.paper.specs.Grammar.{bytes}
 use Rattle.reader.specs.Lines.{goals}
 use Rattle.reader.proofs.Scans.{scanned, pass-on}
 use Rattle.reader.proofs.Lines.{behind-fails, goal-scans}

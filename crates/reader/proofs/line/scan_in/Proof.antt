@@ -1,6 +1,6 @@
 -- `reader::line::scan_in` meets its contract: a keyword, an index and a polynomial in a row. No loop.
 -- Assumes nothing.
-use Rattle.paper.specs.Text.{bytes}
+use Rattle.paper.specs.Grammar.{bytes}
 use Rattle.reader.proofs.Scans.{scanned, pass-on}
 use Rattle.reader.proofs.Lines.{input-fails, input-fails-field, input-scans}
 use borrow.Author.Needs.{needs}

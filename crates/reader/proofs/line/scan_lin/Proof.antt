@@ -1,6 +1,6 @@
 -- `reader::line::scan_lin` meets its contract: a keyword, an index, a polynomial and pairs in a row. No loop.
 -- Assumes nothing.
-use Rattle.paper.specs.Text.{bytes}
+use Rattle.paper.specs.Grammar.{bytes}
 use Rattle.reader.proofs.Scans.{scanned, pass-on}
 use Rattle.reader.proofs.Lines.{lin-fails, lin-fails-field, lin-fails-pairs, lin-scans}
 use borrow.Author.Needs.{needs}

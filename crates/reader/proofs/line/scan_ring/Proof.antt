@@ -1,6 +1,6 @@
 -- `reader::line::scan_ring` meets its contract: a keyword and a number in a row. No loop.
 -- Assumes nothing.
-use Rattle.paper.specs.Text.{bytes}
+use Rattle.paper.specs.Grammar.{bytes}
 use Rattle.reader.specs.Lines.{rings}
 use Rattle.reader.proofs.Scans.{scanned, pass-on}
 use Rattle.reader.proofs.Lines.{behind-fails, ring-scans}

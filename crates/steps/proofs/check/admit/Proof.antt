@@ -1,5 +1,5 @@
 -- `steps::check::admit` meets its contract: the phase first, then the search for the index. Assumes nothing.
-use Rattle.paper.specs.State.{stored}
+use Rattle.paper.specs.Rules.{stored}
 use Rattle.table.specs.Table.{firsts, entryAt}
 use Rattle.table.proofs.Laws.{found-at, found-nothing}
 use Rattle.steps.proofs.Admitting.{admit-misplaced, admit-taken, admit-free}

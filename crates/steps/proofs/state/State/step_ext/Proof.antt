@@ -1,7 +1,7 @@
 -- `steps::state::State::step_ext` meets its contract: -v + p is kept under a free index, where v is new and p a bit. Assumes nothing.
 use native.Mathlib.Omega.{arith}
 use native.Mathlib.Nat.{mul-le-mul}
-use Rattle.paper.specs.State.{stored}
+use Rattle.paper.specs.Rules.{stored}
 use Rattle.table.specs.Table.{storeOf}
 use Rattle.steps.proofs.Said.{ext-number, ext-variable, ext-field, ext-below}
 use Rattle.steps.proofs.Admitting.{admitted-phase}

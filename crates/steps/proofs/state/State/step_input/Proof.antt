@@ -1,6 +1,6 @@
 -- `steps::state::State::step_input` meets its contract: the reduced polynomial of the line is kept under a free index. Assumes nothing.
 use native.Mathlib.Omega.{arith}
-use Rattle.paper.specs.State.{stored}
+use Rattle.paper.specs.Rules.{stored}
 use Rattle.table.specs.Table.{storeOf}
 use Rattle.steps.proofs.Said.{input-number, input-field}
 use Rattle.steps.proofs.Admitting.{admitted-phase}

@@ -1,6 +1,6 @@
 -- `steps::state::State::step_lin` meets its contract: the stated polynomial is kept under a free index, where it is the sum of the pairs. Assumes nothing.
 use native.Mathlib.Omega.{arith}
-use Rattle.paper.specs.State.{stored}
+use Rattle.paper.specs.Rules.{stored}
 use Rattle.table.specs.Table.{storeOf}
 use Rattle.steps.proofs.Said.{lin-number, lin-field, lin-read}
 use Rattle.steps.proofs.Admitting.{admitted-phase}

@@ -2,8 +2,8 @@
 use Prim.Native.Nat.{_-_}
 use native.Mathlib.Omega.{arith}
 use lib.ListN.{length, drop}
-use Rattle.ground.specs.Parts.{part}
-use Rattle.ground.proofs.Parts.{length-part}
+use Rattle.words.specs.Parts.{part}
+use Rattle.words.proofs.Parts.{length-part}
 use Rattle.terms.proofs.Decode.{decode-part}
 use Rattle.regions.specs.Regions.{statedAt}
 use Rattle.steps.proofs.Keeping.{many, large, kept}

@@ -8,7 +8,7 @@ use native.Mathlib.Numerals.{add-one}
 use lib.ListN.{length, take, drop, getD, set, length-drop, drop-of-length-le}
 use lib.Seq.{length-take-le, take-nil, take-all, take-at, drop-at, take-take, drop-drop, paste, paste-suc, length-paste, take-paste, drop-paste}
 use borrow.Rule.Slice.PartMut.{putMid, take-put, drop-put, same-len-mid, mid-len}
-use Rattle.ground.specs.Parts.{part, Within}
+use Rattle.words.specs.Parts.{part, Within}
 
 pub within-refl : {a e : ℕ} {s : List ℕ} → Within a e s s
 within-refl = record { before = refl; after = refl; same = refl }
