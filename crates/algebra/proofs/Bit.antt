@@ -12,10 +12,9 @@ use borrow.Author.Tests.{eqb-true, eq-eqb}
 use Rattle.ground.proofs.Congruence.{Same, same-mod, same-add, same-refl, same-eq, same-sym, _⊳_}
 use Rattle.ground.proofs.Tests.{and-left, and-right, and-both}
 use Rattle.ground.proofs.Square.{bit-square}
-use Rattle.algebra.specs.Sets.{bit}
-use Rattle.algebra.specs.Polynomial.{Poly, keep, sumAt, value, vars, equal, product, extension}
+use Rattle.algebra.specs.Polynomial.{bit, Poly, value, vars, equal, product, extension}
+use Rattle.algebra.proofs.Values.{keep, sumAt, value-reduce, value-mul}
 use Rattle.algebra.proofs.Sets.{AgreeOn, bit-lt, holds-pow, holds-agree, agree-left, agree-right}
-use Rattle.algebra.proofs.Values.{value-reduce, value-mul}
 
 pub equal-true : (p q : Poly) → equal p q ≡ true → p ≡ q
 unfolding equal
@@ -43,14 +42,14 @@ equal-refl (t ∷ p) =
     (equal-refl p)
 
 sumAt-agree : (a b : ℕ) (p : Poly) → AgreeOn (vars p) a b → sumAt a p ≡ sumAt b p
-unfolding sumAt vars
+unfolding vars
 sumAt-agree a b [] h = refl
 sumAt-agree a b (t ∷ p) h =
     ap₂ (λ (x : Bool) (y : ℕ). keep x (t .coef) + y) (holds-agree (t .set) a b (agree-left (t .set) (vars p) h)) (sumAt-agree a b p (agree-right (t .set) (vars p) h))
 
 module _ (k : ℕ) where
   pub value-none : (a : ℕ) → value k a [] ≡ 0
-  unfolding value sumAt
+  unfolding value
   value-none a = zero-mod (2 ^ k)
 
   pub value-agree : (a b : ℕ) (p : Poly) → AgreeOn (vars p) a b → value k a p ≡ value k b p
@@ -79,7 +78,7 @@ module _ (k : ℕ) where
 
   -- -v + p is zero where v is p
   pub extension-zero : (a v : ℕ) (p : Poly) → Same (2 ^ k) (value k a p) (bit a v) → value k a (extension k v p) ≡ 0
-  unfolding extension value sumAt
+  unfolding extension value
   extension-zero a v p h =
       value-reduce k a _
       ∙ (same-add (same-eq (ap (λ (x : Bool). keep x (2 ^ k - 1)) (holds-pow v a))) (same-sym (same-mod (sumAt a p)) ⊳ h) ⊳ minus (bit a v) (bit-lt a v)) .same

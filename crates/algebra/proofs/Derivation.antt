@@ -1,12 +1,11 @@
 -- Derived polynomials: where the inputs are zero, new values for the defined variables make all of them zero. Assumes nothing.
 use mathlib.Core.Path.{_≡_, refl, sym, ap, _∙_}
 use mathlib.Core.List.{List, [], _∷_, _++_}
-use Prim.Native.Nat.{ℕ, _+_, _^_, _<_}
+use Prim.Native.Nat.{ℕ, _^_, _<_}
 use native.Mathlib.Omega.{arith}
 use lib.Bits.{bitOr}
 use Rattle.ground.proofs.Congruence.{Same, same-eq, _⊳_}
-use Rattle.algebra.specs.Sets.{bit, DifferOnlyAt, Apart}
-use Rattle.algebra.specs.Polynomial.{Poly, value, vars, product, extension, allVars, AllZero, Forced, Derived, none, input, forced, defined}
+use Rattle.algebra.specs.Polynomial.{bit, DifferOnlyAt, Apart, Poly, value, vars, product, extension, allVars, AllZero, Forced, Derived, none, input, forced, defined}
 use Rattle.algebra.proofs.Sets.{AgreeOn, bit-or, bit-pow, Changed, change, changed-agree, apart-agree, agree-left, agree-right, has-false}
 use Rattle.algebra.proofs.Bit.{value-agree, bit-valued, extension-zero}
 

@@ -10,10 +10,9 @@ use lib.Dec.{eqb, ltb}
 use borrow.Author.Tests.{eqb-true, eqb-false, ltb-true, ltb-false, lt-ltb, le-ltb}
 use Rattle.ground.proofs.Congruence.{Same, same-add, same-cancel, same-refl, same-eq, _⊳_}
 use Rattle.ground.proofs.Tests.{split, bool-ext, and-both, and-left}
-use Rattle.algebra.specs.Sets.{holds}
-use Rattle.algebra.specs.Polynomial.{Poly, keep, sumIf, sumAt, coefOf, value, reduce, Below}
+use Rattle.algebra.specs.Polynomial.{holds, Poly, sumIf, coefOf, value, reduce, Below}
+use Rattle.algebra.proofs.Values.{keep, sumAt, keep-add, sum-reduce, value-reduce}
 use Rattle.algebra.proofs.Sets.{holds-refl, holds-le}
-use Rattle.algebra.proofs.Values.{keep-add, sum-reduce, value-reduce}
 use Rattle.algebra.proofs.Reduced.{is-reduce, reduced-reduce}
 
 keep-both : (x : Bool) (c : ℕ) → keep (x && true) c ≡ keep (x && false) c + keep x c
@@ -50,7 +49,6 @@ sum-below-none f [] = refl
 sum-below-none f (t ∷ p) = rw (le-ltb (t .set) 0 (omega arith), and-false) (omega (arith, sum-below-none f p))
 
 sumAt-split : (m : ℕ) (p : Poly) → sumAt m p ≡ sumIf (λ n. holds n m && ltb n m) p + coefOf m p
-unfolding sumAt
 sumAt-split m p =
     ap (λ (g : ℕ → Bool). sumIf g p) (fun-ext (λ n. bool-ext (holds n m) (holds n m && ltb n (suc m))
     (λ e. and-both (holds n m) (ltb n (suc m)) e (lt-ltb n (suc m) (omega (arith, holds-le n m e)))) (λ e. and-left (holds n m) (ltb n (suc m)) e)))

@@ -11,8 +11,8 @@ use lib.Dec.{eqb, ltb}
 use borrow.Author.Tests.{eqb-true, eqb-false, eq-eqb, ne-eqb, ltb-true, ltb-false}
 use Rattle.ground.proofs.Congruence.{Same, same-sym, same-lt, _⊳_}
 use Rattle.ground.proofs.Tests.{by-cond, split}
-use Rattle.algebra.specs.Polynomial.{Term, Poly, keep, coefOf, put, insert, reduce, Below, Reduced}
-use Rattle.algebra.proofs.Values.{sum-reduce}
+use Rattle.algebra.specs.Polynomial.{Term, Poly, coefOf, put, insert, reduce, Below, Reduced}
+use Rattle.algebra.proofs.Values.{keep, sum-reduce}
 
 module _ (k : ℕ) where
   pub reduced-weaken : {a b : ℕ} (p : Poly) → a ≤ b → Reduced k a p → Reduced k b p

@@ -12,7 +12,7 @@ use lib.Pow.{shr-shr}
 use lib.Dec.{eqb}
 use borrow.Author.Tests.{eqb-true, eqb-false, eq-eqb, ne-eqb}
 use Rattle.ground.proofs.Tests.{split, bool-ext, and-left, and-right, and-both}
-use Rattle.algebra.specs.Sets.{bit, has, holds, DifferOnlyAt, Apart}
+use Rattle.algebra.specs.Polynomial.{bit, has, holds, DifferOnlyAt, Apart}
 
 -- ---- digits
 pub bit-lt : (m v : ℕ) → bit m v < 2

@@ -4,8 +4,7 @@ use mathlib.Core.List.{[], _∷_, _++_}
 use Prim.Native.Nat.{ℕ, max}
 use native.Mathlib.Omega.{arith}
 use lib.Bits.{bitOr, or-zero-l}
-use Rattle.algebra.specs.Sets.{bit}
-use Rattle.algebra.specs.Polynomial.{Poly, vars}
+use Rattle.algebra.specs.Polynomial.{bit, Poly, vars}
 use Rattle.algebra.proofs.Sets.{bit-or, bit-ext}
 
 pub or-assoc : (a b c : ℕ) → bitOr (bitOr a b) c ≡ bitOr a (bitOr b c)

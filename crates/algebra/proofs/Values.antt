@@ -1,6 +1,6 @@
 -- A reduced sum or product has the sum or product of the values. Assumes nothing.
 use mathlib.Core.Path.{_≡_, refl, sym, ap, ap₂, _∙_}
-use mathlib.Core.Bool.{Bool, true, false, _&&_}
+use mathlib.Core.Bool.{Bool, true, false, _&&_, cond}
 use mathlib.Core.List.{[], _∷_, _++_}
 use Prim.Native.Nat.{ℕ, _+_, _*_, _%_, _^_}
 use native.Mathlib.Nat.{mul-add, add-mul, mul-zero, zero-mul, zero-mod, zero-add}
@@ -9,9 +9,16 @@ use lib.Dec.{eqb, ltb}
 use borrow.Author.Tests.{eqb-true}
 use Rattle.ground.proofs.Congruence.{Same, same-mod, same-add, same-mul, same-refl, same-eq, same-sym, _⊳_}
 use Rattle.ground.proofs.Tests.{by-cond}
-use Rattle.algebra.specs.Sets.{holds}
-use Rattle.algebra.specs.Polynomial.{Term, Poly, keep, sumIf, sumAt, value, times, products, put, insert, reduce, sum, product}
+use Rattle.algebra.specs.Polynomial.{holds, Term, Poly, sumIf, value, times, products, put, insert, reduce, product}
 use Rattle.algebra.proofs.Sets.{holds-or}
+
+-- c where the test passes, else 0
+abbrev pub keep : Bool → ℕ → ℕ
+keep b c = cond b c 0
+
+-- the terms that are 1 at an assignment
+abbrev pub sumAt : ℕ → Poly → ℕ
+sumAt a p = sumIf (λ m. holds m a) p
 
 pub keep-add : (b : Bool) (c d : ℕ) → keep b (c + d) ≡ keep b c + keep b d
 keep-add true c d = refl
@@ -27,11 +34,10 @@ sumIf-append f [] q = omega arith
 sumIf-append f (t ∷ p) q = omega (arith, sumIf-append f p q)
 
 pub sumAt-append : (a : ℕ) (p q : Poly) → sumAt a (p ++ q) ≡ sumAt a p + sumAt a q
-unfolding sumAt
 sumAt-append a p q = sumIf-append (λ m. holds m a) p q
 
 pub sumAt-times : (a : ℕ) (t : Term) (q : Poly) → sumAt a (times t q) ≡ keep (holds (t .set) a) (t .coef) * sumAt a q
-unfolding sumAt times
+unfolding times
 sumAt-times a t [] = sym (mul-zero _)
 sumAt-times a t (u ∷ q) =
     ap₂ (λ (x y : ℕ). x + y)
@@ -40,7 +46,7 @@ sumAt-times a t (u ∷ q) =
     ∙ sym (mul-add (keep (holds (t .set) a) (t .coef)) (keep (holds (u .set) a) (u .coef)) (sumAt a q))
 
 pub sumAt-mul : (a : ℕ) (p q : Poly) → sumAt a (products p q) ≡ sumAt a p * sumAt a q
-unfolding sumAt products
+unfolding products
 sumAt-mul a [] q = sym (zero-mul (sumAt a q))
 sumAt-mul a (t ∷ p) q =
     sumAt-append a (times t q) (products p q) ∙ ap₂ (λ (x y : ℕ). x + y) (sumAt-times a t q) (sumAt-mul a p q)
@@ -80,11 +86,11 @@ module _ (k : ℕ) (f : ℕ → Bool) where
 -- a reduced sum or product has the sum or product of the values
 module _ (k a : ℕ) where
   pub value-reduce : (p : Poly) → value k a (reduce k p) ≡ value k a p
-  unfolding value sumAt
+  unfolding value
   value-reduce p = sum-reduce k (λ m. holds m a) p .same
 
-  pub value-add : (p q : Poly) → value k a (sum k p q) ≡ (value k a p + value k a q) % 2 ^ k
-  unfolding sum value
+  pub value-add : (p q : Poly) → value k a (reduce k (p ++ q)) ≡ (value k a p + value k a q) % 2 ^ k
+  unfolding value
   value-add p q = value-reduce (p ++ q) ∙ ap (λ (x : ℕ). x % 2 ^ k) (sumAt-append a p q) ∙ same-add (same-sym (same-mod (sumAt a p))) (same-sym (same-mod (sumAt a q))) .same
 
   pub value-mul : (p q : Poly) → value k a (product k p q) ≡ (value k a p * value k a q) % 2 ^ k

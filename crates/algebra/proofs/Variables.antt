@@ -1,12 +1,11 @@
 -- Reducing brings in no variable. Assumes nothing.
 use mathlib.Core.List.{[], _∷_}
-use Prim.Native.Nat.{ℕ, _+_, _%_, _^_, _≤_}
+use Prim.Native.Nat.{ℕ, _+_, _-_, _%_, _^_, _≤_}
 use native.Mathlib.Omega.{arith}
 use lib.Bits.{bitOr}
 use lib.Dec.{eqb, ltb}
 use Rattle.ground.proofs.Tests.{by-cond}
-use Rattle.algebra.specs.Sets.{bit}
-use Rattle.algebra.specs.Polynomial.{Poly, vars, put, insert, reduce, extension, minusOne}
+use Rattle.algebra.specs.Polynomial.{bit, Poly, vars, put, insert, reduce, extension}
 use Rattle.algebra.proofs.Sets.{bit-or}
 
 module _ (k w : ℕ) where
@@ -39,4 +38,4 @@ module _ (k w : ℕ) where
 
   pub vars-extension : (v : ℕ) (p : Poly) → In (bitOr (2 ^ v) (vars p)) (extension k v p)
   unfolding extension vars
-  vars-extension v p = vars-reduce (record { set = 2 ^ v; coef = minusOne k } ∷ p)
+  vars-extension v p = vars-reduce (record { set = 2 ^ v; coef = 2 ^ k - 1 } ∷ p)

@@ -10,14 +10,13 @@ use borrow.Author.Tests.{lt-ltb, le-ltb}
 use Rattle.ground.specs.Lists.{every}
 use Rattle.ground.proofs.Tests.{and-left, and-right, by-cond}
 use Rattle.limits.specs.Limits.{textBytes, lineBytes, leastPool, leastScratch, mostPoolTerms, termWords}
-use Rattle.limits.specs.Verdicts.{SHORT, LONGTEXT}
-use Rattle.paper.specs.Rules.{Row, first, steps, start, rules}
+use Rattle.limits.specs.Verdicts.{SHORT, LONGTEXT, FORM}
+use Rattle.paper.specs.Rules.{first, steps, start, rules}
 use Rattle.paper.specs.Grammar.{Bytes, Line, lines, Read, got, stuck, statement}
 use Rattle.paper.specs.Statement.{Statement}
 use Rattle.paper.specs.Rules as paper
 use Rattle.paper.specs.Answer as answers
-use Rattle.paper.specs.Answer.{Outcome, stands, refused, judge, judgeRead, judgeLine, report, ending, run, capacityOf, unread, answer, roomAfter}
-use Rattle.paper.proofs.Steps.{caseOf}
+use Rattle.paper.specs.Answer.{Outcome, stands, refused, judge, judgeLine, report, ending, run, capacityOf, unread, answer, roomAfter}
 use Rattle.checker.specs.declared.answer.Answer.{Answer}
 use Rattle.checker.specs.Checked.{answerOf, Ran, Checked}
 
@@ -32,19 +31,19 @@ abbrev Later : Outcome → Type 0
 Later (stands s) = Unit {0}
 Later (refused v i) = late v ≡ true
 
-first-late : {A : Type 0} (rs : List (Row A)) (x : A) → every (λ r. late (r .verdict)) rs ≡ true → late (first rs x) ≡ true
+first-late : (rs : List (ℕ × Bool)) → every (λ r. late (r .0)) rs ≡ true → late (first rs) ≡ true
 unfolding first every
-first-late [] x h = refl
-first-late (r ∷ rs) x h =
-    by-cond (λ (v : ℕ). late v ≡ true) (r .refuses x)
-    (λ _. and-left (late (r .verdict)) (every (λ r. late (r .verdict)) rs) h)
-    (λ _. first-late rs x (and-right (late (r .verdict)) (every (λ r. late (r .verdict)) rs) h))
+first-late [] h = refl
+first-late (r ∷ rs) h =
+    by-cond (λ (v : ℕ). late v ≡ true) (r .1)
+    (λ _. and-left (late (r .0)) (every (λ r. late (r .0)) rs) h)
+    (λ _. first-late rs (and-right (late (r .0)) (every (λ r. late (r .0)) rs) h))
 
 module _ (capacity : ℕ) where
-  read-late : (s : paper.State) (r : Read Statement) → Later (judgeRead capacity s r)
-  unfolding judgeRead judge rules every
+  read-late : (s : paper.State) (r : Read Statement) → Later (elim r [ got st t ↦ judge capacity s st | stuck t ↦ refused FORM 0 ])
+  unfolding judge rules every
   read-late s (got st r) =
-      by-cond Later (eqb (first rules (caseOf capacity s st)) 0) (λ _. tt) (λ _. first-late rules (caseOf capacity s st) refl)
+      by-cond Later (eqb (first (rules capacity s st)) 0) (λ _. tt) (λ _. first-late (rules capacity s st) refl)
   read-late s (stuck r) = refl
 
   line-late : (s : paper.State) (l : Line) → Later (judgeLine capacity s l)
@@ -64,7 +63,7 @@ module _ (capacity : ℕ) where
   run-late s n (l ∷ ls) = go (judgeLine capacity s l) (line-late s l) (λ s′. run-late s′ (suc n) ls)
     where
       go : (o : Outcome) → Later o → ((s′ : paper.State) → late (run capacity s′ (suc n) ls .verdict) ≡ true)
-          → late (answers.proceed o (λ s′. run capacity s′ (suc n) ls) (λ v i. report s v (suc n) i) .verdict) ≡ true
+          → late (elim o as (λ _. answers.Answer) [ stands s′ ↦ run capacity s′ (suc n) ls | refused v i ↦ report s v (suc n) i ] .verdict) ≡ true
       go (stands s′) h rest = rest s′
       go (refused v i) h rest = h
 

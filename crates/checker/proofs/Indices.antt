@@ -10,13 +10,12 @@ use lib.ListN.{length, drop}
 use borrow.Author.Tests.{leb-true, le-leb, lt-ltb}
 use Rattle.ground.proofs.Tests.{split, and-left, and-right, by-cond}
 use Rattle.limits.specs.Limits.{lineBytes}
-use Rattle.limits.specs.Verdicts.{TERMS}
+use Rattle.limits.specs.Verdicts.{FORM, TERMS}
 use Rattle.paper.specs.Rules.{first, rules}
-use Rattle.paper.specs.Grammar.{Bytes, Line, Read, got, decimal, statement}
+use Rattle.paper.specs.Grammar.{Bytes, Line, Read, got, stuck, decimal, statement}
 use Rattle.paper.specs.Statement.{Statement, ring, input, goal, lin, del, ext, isIndex, isVariable, inRange, numbersInRange}
 use Rattle.paper.specs.Rules as paper
-use Rattle.paper.specs.Answer.{Outcome, stands, refused, indexOf, judge, judgeRead, judgeLine}
-use Rattle.paper.proofs.Steps.{caseOf}
+use Rattle.paper.specs.Answer.{Outcome, stands, refused, indexOf, judge, judgeLine}
 use Rattle.reader.specs.declared.line.Kind.{Kind}
 use Rattle.reader.specs.declared.line.Kind.the-variants.{Ring, Input, Goal, Lin, Del, Ext}
 use Rattle.reader.specs.Lines.{pairRanged, kindOf, Stands, Halts}
@@ -98,20 +97,20 @@ abbrev InRange : Statement → Outcome → Type 0
 InRange st (stands s) = Unit {0}
 InRange st (refused v i) = TERMS ≤ v → numbersInRange st ≡ true
 
-unranged : (capacity : ℕ) (s : paper.State) (st : Statement) → numbersInRange st ≡ false → first rules (caseOf capacity s st) ≡ 5
+unranged : (capacity : ℕ) (s : paper.State) (st : Statement) → numbersInRange st ≡ false → first (rules capacity s st) ≡ 5
 unfolding first rules
 unranged capacity s st e = rw e
 
 judge-ranged : (capacity : ℕ) (s : paper.State) (st : Statement) → (numbersInRange st ≡ true) ⊎ (numbersInRange st ≡ false) → InRange st (judge capacity s st)
 unfolding judge
-judge-ranged capacity s st (inl e) = by-cond (InRange st) (eqb (first rules (caseOf capacity s st)) 0) (λ _. tt) (λ _ _. e)
+judge-ranged capacity s st (inl e) = by-cond (InRange st) (eqb (first (rules capacity s st)) 0) (λ _. tt) (λ _ _. e)
 judge-ranged capacity s st (inr e) = rw (unranged capacity s st e) (λ m. absurd (let z : ⊥ = omega arith in z))
 
 line-ranged : (capacity : ℕ) (s : paper.State) (l : Line) (st : Statement) (r : Bytes) → statement l ≡ got st r → InRange st (judgeLine capacity s l)
-unfolding judgeLine judgeRead
+unfolding judgeLine
 line-ranged capacity s l st r e =
     by-cond (InRange st) (ltb lineBytes (length (l .content))) (λ _ m. absurd (let z : ⊥ = omega arith in z))
-    (λ _. subst (λ (x : Read Statement). InRange st (judgeRead capacity s x)) (sym e) (judge-ranged capacity s st (split (numbersInRange st))))
+    (λ _. subst (λ (x : Read Statement). InRange st (elim x [ got y t ↦ judge capacity s y | stuck t ↦ refused FORM 0 ])) (sym e) (judge-ranged capacity s st (split (numbersInRange st))))
 
 pub refused-ranged : {capacity : ℕ} {l : Line} {s : State} {pool scratch : List ℕ} {r : Step} {pool′ scratch′ : List ℕ}
     → LineJudged capacity l s pool scratch r pool′ scratch′ → (r .verdict ≡ 0 → ⊥)

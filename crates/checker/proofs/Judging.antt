@@ -10,11 +10,10 @@ use Rattle.ground.specs.Lists.{any}
 use Rattle.limits.specs.Limits.{lineBytes}
 use Rattle.limits.specs.Verdicts.{NUMBER, TERMS, ACCEPTED}
 use Rattle.paper.specs.Rules.{first, rules}
-use Rattle.paper.specs.Grammar.{Bytes, Line, Read, got, stuck, kinds, oneOf, stopShort, statement}
+use Rattle.paper.specs.Grammar.{Bytes, Line, Read, got, stuck, next, kinds, oneOf, statement}
 use Rattle.paper.specs.Statement.{Statement, fields, numbersInRange, tooManyTerms}
 use Rattle.paper.specs.Rules as paper
 use Rattle.paper.specs.Answer.{stands, refused, judge, judgeLine}
-use Rattle.paper.proofs.Steps.{caseOf}
 use Rattle.paper.proofs.Judging.{judge-stands}
 use Rattle.paper.proofs.Running.{line-long, line-stuck, line-read}
 use Rattle.reader.specs.declared.line.Kind.{Kind}
@@ -31,8 +30,7 @@ abbrev lineOf : Bytes → Bool → Line
 lineOf s ended = record { content = s; ended = ended }
 
 -- ---- only a line with its byte 10 can be read
-no-short : (x : Read Statement) {st : Statement} {r : Bytes} → stopShort x ≡ got st r → ⊥
-unfolding stopShort
+no-short : (x : Read Statement) {st : Statement} {r : Bytes} → next x (λ _ t. stuck t) ≡ got st r → ⊥
 no-short (got y t) e = let z : _≡_ {A = ℕ} 0 1 = cc in omega arith
 no-short (stuck t) e = let z : _≡_ {A = ℕ} 0 1 = cc in omega arith
 
@@ -69,12 +67,12 @@ verdict-some true false v w e n = absurd (n e)
 verdict-some false b v w e n = sym e
 
 first-scanned : (capacity : ℕ) (s : paper.State) (st : Statement) (v : ℕ) → v ≡ cond (not (numbersInRange st)) NUMBER (cond (any tooManyTerms (fields st)) TERMS ACCEPTED)
-    → (v ≡ 0 → ⊥) → first rules (caseOf capacity s st) ≡ v
+    → (v ≡ 0 → ⊥) → first (rules capacity s st) ≡ v
 unfolding first rules
 first-scanned capacity s st v e n = verdict-some (numbersInRange st) (any tooManyTerms (fields st)) v _ e n
 
 -- ---- judging
-judge-index : (capacity : ℕ) (s : paper.State) (st : Statement) (v : ℕ) (r : Bytes) → (v ≡ 0 → ⊥) → first rules (caseOf capacity s st) ≡ v
+judge-index : (capacity : ℕ) (s : paper.State) (st : Statement) (v : ℕ) (r : Bytes) → (v ≡ 0 → ⊥) → first (rules capacity s st) ≡ v
     → judge capacity s st ≡ refused v (indexOfRead v (got st r))
 unfolding judge
 judge-index capacity s st v r n e = rw (e, ne-eqb v 0 n) refl
@@ -109,7 +107,7 @@ module _ {capacity : ℕ} {l : Line} {s : State} {pool scratch : List ℕ} {r : 
       (line-stuck capacity (stateOf s pool scratch) l t m e ∙ ap (λ (i : ℕ). refused 4 i) (sym (no-index 4 (statement l) (omega arith)))) h
 
 module _ {line : Bytes} {ended : Bool} (m : length line ≤ lineBytes) {k : Kind} {v : ℕ} (h : Stands line ended k v) where
-  read-refused : (capacity : ℕ) (s : paper.State) (w : ℕ) → (w ≡ 0 → ⊥) → first rules (caseOf capacity s (h .value)) ≡ w
+  read-refused : (capacity : ℕ) (s : paper.State) (w : ℕ) → (w ≡ 0 → ⊥) → first (rules capacity s (h .value)) ≡ w
       → judgeLine capacity s (lineOf line ended) ≡ refused w (indexOfRead w (statement (lineOf line ended)))
   read-refused capacity s w n e =
       line-read capacity s (lineOf line ended) (h .value) [] m (h .reads)

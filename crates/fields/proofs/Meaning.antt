@@ -8,7 +8,7 @@ use Rattle.ground.proofs.Congruence.{Same, same-refl, same-add, same-mod, _⊳_
 use Rattle.ground.specs.Lists.{every}
 use Rattle.ground.proofs.Tests.{and-left, and-right}
 use Rattle.limits.specs.Limits.{greatestMagnitude}
-use Rattle.algebra.specs.Polynomial.{sumIf, minusOne, reduce}
+use Rattle.algebra.specs.Polynomial.{sumIf, reduce}
 use Rattle.algebra.proofs.Sums.{reduce-sums}
 use Rattle.words.proofs.Wrap.{same-cut, same-negative}
 use Rattle.paper.specs.Statement.{Written, isTerm, inRange, setOf, asTerm, reduced}
@@ -16,7 +16,7 @@ use Rattle.paper.proofs.Ranges.{term-in-range, keep-same}
 use Rattle.fields.specs.Worded.{signedWord, wordedTerm, worded}
 
 module _ (k : ℕ) (h : k ≤ 64) where
-  signed-same : (negative : Bool) (m : ℕ) → m ≤ greatestMagnitude → Same (2 ^ k) (signedWord negative m) (cond negative (minusOne k * m) m)
+  signed-same : (negative : Bool) (m : ℕ) → m ≤ greatestMagnitude → Same (2 ^ k) (signedWord negative m) (cond negative ((2 ^ k - 1) * m) m)
   unfolding signedWord
   signed-same true m l = same-cut k h (same-mod (2 ^ 64 - m)) ⊳ same-negative k h m (omega arith)
   signed-same false m l = same-refl

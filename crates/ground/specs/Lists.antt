@@ -1,6 +1,5 @@
 -- Tests, sums and gatherings along a list.
-use mathlib.Core.Bool.{Bool, true, false, _&&_, _||_}
-use mathlib.Core.List.{List, [], _∷_, _++_}
+use mathlib.Core.{Bool.Bool, Bool.true, Bool.false, Bool._&&_, Bool._||_, List.List, List.[], List._∷_, List._++_}
 use Prim.Native.Nat.{ℕ, _+_}
 
 unfoldable pub every : {A : Type 0} → (A → Bool) → List A → Bool

@@ -13,7 +13,7 @@ use Rattle.paper.specs.Statement.{Statement, ring, input, goal, lin, del
 use Rattle.paper.specs.Rules.{modulo, Store, stored, find, storedTerms, State, start, place, entries, productCount, after}
 use Rattle.paper.specs.Answer.{ringIn, sumOver, named, productsIn, introducedPolynomials, deletedPolynomials, introducedTerms, deletedTerms}
 use Rattle.paper.proofs.Stands.{Stands, stands-none}
-use Rattle.paper.proofs.Steps.{Steps, done, step, caseOf, Opened, nothing, opening}
+use Rattle.paper.proofs.Steps.{Steps, done, step, Opened, nothing, opening}
 use Rattle.paper.proofs.Store.{Distinct, find-new, terms-append, distinct-append, distinct-remove, find-remove, terms-remove}
 
 look : (b : Bool) (p q : Poly) → cond b p q ≡ cond (b || false) (cond b p []) q
@@ -63,7 +63,7 @@ module _ (k : ℕ) where
         more-terms : storedTerms more + (deletedTerms k h + 0) ≡ introducedTerms k h + storedTerms (record { index = i; poly = p } ∷ [])
         more-terms = omega (arith, terms-append (s .store) (record { index = i; poly = p } ∷ []), c .terms)
 
-      next : (st : Statement) → Stands (caseOf capacity here st) → Carried (after here st) (st ∷ h)
+      next : (st : Statement) → Stands capacity here st → Carried (after here st) (st ∷ h)
       unfolding place after entries newIndex namedIndices stored find any every ringIn named deletedPolynomials introducedPolynomials deletedTerms introducedTerms sumOver
       next (ring j) st = absurd (omega (arith, st .placed, c .begun))
       next (input i p) st = record {
@@ -120,16 +120,16 @@ module _ (k : ℕ) where
       }
 
   module _ (capacity : ℕ) where
-    onward : (s : State) (h : List Statement) (st : Statement) → Carried s h → Stands (caseOf capacity s st) → Carried (after s st) (st ∷ h)
+    onward : (s : State) (h : List Statement) (st : Statement) → Carried s h → Stands capacity s st → Carried (after s st) (st ∷ h)
     onward s h st c stood =
-        subst (λ (x : State). Carried x h → Stands (caseOf capacity x st) → Carried (after x st) (st ∷ h)) (sym path) (λ c stood. next capacity s h c st stood) c stood
+        subst (λ (x : State). Carried x h → Stands capacity x st → Carried (after x st) (st ∷ h)) (sym path) (λ c stood. next capacity s h c st stood) c stood
       where
         path : s ≡ here capacity s h
         path = λ i. record { phase = s .phase; ring = c .ringed i; store = s .store; seen = s .seen; goal = s .goal; reached = s .reached; products = s .products }
 
     pub carried : {s e : State} {sts : List Statement} → Steps capacity s sts e → (h : List Statement) → Carried s h → Carried e (reverseAux sts h)
     carried done h c = c
-    carried (step {s} st q r) h c = carried r (st ∷ h) (onward s h st c (stands-none (caseOf capacity s st) q))
+    carried (step {s} st q r) h c = carried r (st ∷ h) (onward s h st c (stands-none capacity s st q))
 
 -- ---- from the start
 pub record Counted (k : ℕ) (s : State) (h : List Statement) : Type 0 where

@@ -8,7 +8,7 @@ use Rattle.ground.proofs.Congruence.{Same, same-refl}
 use Rattle.ground.specs.Lists.{every}
 use Rattle.ground.proofs.Tests.{and-left, and-right}
 use Rattle.limits.specs.Limits.{greatestMagnitude}
-use Rattle.algebra.specs.Polynomial.{keep}
+use Rattle.algebra.proofs.Values.{keep}
 use Rattle.paper.specs.Statement.{WrittenTerm, isVariable, isTerm}
 
 pub record TermInRange (t : WrittenTerm) : Type 0 where

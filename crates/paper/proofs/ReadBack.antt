@@ -13,9 +13,8 @@ use borrow.Author.Tests.{ltb-true, ltb-false, le-leb, eq-eqb, ne-eqb}
 use Rattle.ground.specs.Lists.{gather}
 use Rattle.ground.proofs.Tests.{split, by-cond, and-left, and-right}
 use Rattle.limits.specs.Limits.{variables}
-use Rattle.algebra.specs.Sets.{members}
-use Rattle.algebra.specs.Polynomial.{Term, Poly, Reduced}
-use Rattle.paper.specs.Grammar.{Bytes, bytes, Read, got, Reader, next, end, upTo, each, isDigit, digits, decimal, sign, term, isZero, asWritten, polynomial}
+use Rattle.algebra.specs.Polynomial.{members, Term, Poly, Reduced}
+use Rattle.paper.specs.Grammar.{Bytes, bytes, Read, got, Reader, next, end, upTo, each, isDigit, digits, decimal, sign, term, asWritten, polynomial}
 use Rattle.paper.specs.Statement.{WrittenTerm, Written}
 use Rattle.paper.specs.Spelling.{spellDigits, spellNumber, spellCoefficient, spellTerm, spell, wholeField}
 
@@ -226,7 +225,7 @@ module _ (k : ℕ) where
   magnitude-some t h l = by-cond (λ (x : ℕ). 0 < x) (leb (t .coef) (2 ^ (k - 1))) (λ _. h) (λ _. omega arith)
 
   some-terms : (t : WrittenTerm) (ts : List WrittenTerm) → 0 < t .magnitude → asWritten t ts ≡ t ∷ ts
-  unfolding asWritten isZero
+  unfolding asWritten
   some-terms t [] h = rw (ne-eqb (t .magnitude) 0 (λ e. omega arith)) (go (not (t .negative)))
     where
       go : (b : Bool) → cond ((b && false) && elim (t .variables) [ [] ↦ true | v ∷ vs ↦ false ]) [] (t ∷ []) ≡ t ∷ []
@@ -235,7 +234,7 @@ module _ (k : ℕ) where
   some-terms t (u ∷ ts) h = refl
 
   zero-spelled : polynomial (spell k []) ≡ got [] []
-  unfolding spell bytes polynomial term sign decimal upTo isZero asWritten
+  unfolding spell bytes polynomial term sign decimal upTo asWritten
   zero-spelled = refl
 
   some-spelled : (t : Term) (p : Poly) → polynomial (spell k (t ∷ p)) ≡ got (asWritten (writtenTerm t) (map writtenTerm p)) []

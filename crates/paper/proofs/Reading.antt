@@ -14,7 +14,7 @@ use lib.Seq.{drop-cons, drop-drop, take-add}
 use borrow.Author.Tests.{leb-true, not-true, eqb-true, eqb-false, le-leb, lt-leb, eq-eqb, ne-eqb}
 use Rattle.ground.specs.Lists.{every}
 use Rattle.ground.proofs.Tests.{and-left, and-right, and-both}
-use Rattle.paper.specs.Grammar.{Bytes, bytes, Read, got, stuck, Reader, next, give, literal, upTo, each, isDigit, digits, decimal, sign, term, isZero, asWritten, polynomial, tab, number, field, pair}
+use Rattle.paper.specs.Grammar.{Bytes, bytes, Read, got, stuck, Reader, next, give, literal, upTo, each, isDigit, digits, decimal, sign, term, asWritten, polynomial, tab, number, field, pair}
 use Rattle.paper.specs.Statement.{WrittenTerm, Written}
 
 clash : {A : Type 0} {x : A} {s t : Bytes} → stuck s ≡ got x t → ⊥
@@ -457,13 +457,16 @@ decimal-of-zero (b ∷ s) r e = go (eqb b (code "0")) (leb (code "0") b && leb b
         absurd (let y : ⊥ = omega (arith, digits-least (b - 48) s 0 r e) in y)
     go false false d f e = absurd (clash e)
 
+-- the term of the field `0`
+abbrev pub isZero : WrittenTerm → Bool
+isZero t = not (t .negative) && eqb (t .magnitude) 0 && elim (t .variables) [ [] ↦ true | v ∷ vs ↦ false ]
+
 is-empty : (vs : List ℕ) → elim vs [ [] ↦ true | v ∷ vs ↦ false ] ≡ true → vs ≡ []
 is-empty [] e = refl
 is-empty (v ∷ vs) e = let z : _≡_ {A = ℕ} 0 1 = cc in absurd (let y : ⊥ = omega arith in y)
 
 -- where the term is the zero polynomial, its one byte is 0
 pub term-zero : (s : Bytes) (t : WrittenTerm) (r : Bytes) → term s ≡ got t r → isZero t ≡ true → s ≡ code "0" ∷ r
-unfolding isZero
 term-zero s t r e z =
     let p = term-parts s t r e in
     let a = and-left (not (t .negative) && eqb (t .magnitude) 0) _ z in
@@ -475,7 +478,7 @@ term-zero s t r e z =
     ∙ ap (λ (w : Bytes). code "0" ∷ w) (each-empty (code ".") decimal (p .plain) r (p .named ∙ ap (λ (l : List ℕ). got l r) v))
 
 pub zero-term : (s : Bytes) (t : WrittenTerm) → term (code "0" ∷ s) ≡ got t s → isZero t ≡ true
-unfolding term isZero sign decimal inField
+unfolding term sign decimal inField
 zero-term s t e =
     let p = parted (each (code ".") decimal s) _ e in
     let x : record { negative = false; magnitude = 0; variables = p .value } ≡ t = (let w = p .second in cc) in

@@ -1,9 +1,7 @@
 -- A run, line by line: what follows a line that stands, one that is refused, and the last. Assumes nothing.
 use mathlib.Core.Path.{_≡_, refl}
-use mathlib.Core.Bool.{false}
-use mathlib.Core.List.{List, [], _∷_}
+use mathlib.Core.List.{List, _∷_}
 use Prim.Native.Nat.{ℕ, suc, _≤_, _<_}
-use lib.Dec.{ltb}
 use lib.ListN.{length}
 use borrow.Author.Tests.{lt-ltb, le-ltb}
 use Rattle.limits.specs.Limits.{lineBytes}
@@ -11,7 +9,7 @@ use Rattle.limits.specs.Verdicts.{LONGLINE, FORM}
 use Rattle.paper.specs.Grammar.{Bytes, Line, got, stuck, statement}
 use Rattle.paper.specs.Statement.{Statement}
 use Rattle.paper.specs.Rules.{State}
-use Rattle.paper.specs.Answer.{Outcome, stands, refused, judge, judgeRead, judgeLine, report, run}
+use Rattle.paper.specs.Answer.{stands, refused, judge, judgeLine, report, run}
 
 module _ (capacity : ℕ) (s : State) where
   -- ---- one line
@@ -20,18 +18,18 @@ module _ (capacity : ℕ) (s : State) where
   line-long l h = rw (lt-ltb lineBytes (length (l .content)) h) refl
 
   pub line-stuck : (l : Line) (r : Bytes) → length (l .content) ≤ lineBytes → statement l ≡ stuck r → judgeLine capacity s l ≡ refused FORM 0
-  unfolding judgeLine judgeRead
+  unfolding judgeLine
   line-stuck l r h e = rw (le-ltb lineBytes (length (l .content)) h, e) refl
 
   pub line-read : (l : Line) (st : Statement) (r : Bytes) → length (l .content) ≤ lineBytes → statement l ≡ got st r → judgeLine capacity s l ≡ judge capacity s st
-  unfolding judgeLine judgeRead
+  unfolding judgeLine
   line-read l st r h e = rw (le-ltb lineBytes (length (l .content)) h, e) refl
 
   -- ---- many lines
   pub run-stands : (n : ℕ) (l : Line) (ls : List Line) (s′ : State) → judgeLine capacity s l ≡ stands s′ → run capacity s n (l ∷ ls) ≡ run capacity s′ (suc n) ls
   unfolding run
-  run-stands n l ls s′ e = rw e refl
+  run-stands n l ls s′ e = rw (e, run)
 
   pub run-refused : (n : ℕ) (l : Line) (ls : List Line) (v i : ℕ) → judgeLine capacity s l ≡ refused v i → run capacity s n (l ∷ ls) ≡ report s v (suc n) i
   unfolding run
-  run-refused n l ls v i e = rw e refl
+  run-refused n l ls v i e = rw (e, run)

@@ -1,6 +1,6 @@
 -- Statements that stand make a derivation: what they introduce is derived from the inputs, and a goal that is reached is forced. Assumes nothing.
 use mathlib.Core.Path.{_≡_, refl, sym, ap, _∙_, subst}
-use mathlib.Core.Bool.{Bool, true, false, _||_, cond}
+use mathlib.Core.Bool.{Bool, true, false, _||_, cond, not}
 use mathlib.Core.Logic.{⊎-elim}
 use mathlib.Core.List.{List, [], _∷_, _++_, map}
 use Prim.Native.Nat.{ℕ, _+_, _^_, _≤_, _<_}
@@ -12,18 +12,21 @@ use borrow.Author.Tests.{not-false, eqb-true, eqb-false}
 use Rattle.ground.proofs.Congruence.{Same, same-add, same-mul, same-refl, same-eq, _⊳_}
 use Rattle.ground.specs.Lists.{any, gather}
 use Rattle.ground.proofs.Tests.{split, by-cond, or-cases}
-use Rattle.algebra.specs.Sets.{bit, Apart}
-use Rattle.algebra.specs.Polynomial.{Poly, sumAt, value, vars, equal, products, reduce, product, extension, allVars, AllZero, Forced, Derived, input as inputOf, forced, defined}
+use Rattle.algebra.specs.Polynomial.{bit, Apart, has, Poly, value, vars, equal, products, reduce, product, extension, allVars, AllZero, Forced, Derived, input as inputOf, forced, defined}
+use Rattle.algebra.proofs.Values.{sumAt, value-reduce, sumAt-append, sumAt-mul}
 use Rattle.algebra.proofs.Sets.{bit-or, bit-lt, bit-of-zero, bit-pow-other, has-false, has-none}
-use Rattle.algebra.proofs.Values.{value-reduce, sumAt-append, sumAt-mul}
 use Rattle.algebra.proofs.Bit.{equal-true, value-none}
 use Rattle.algebra.proofs.Variables.{vars-extension}
 use Rattle.algebra.proofs.Derivation.{zero-left, zero-right, zero-both}
 use Rattle.paper.specs.Statement.{Written, Pair, Statement, ring, input, goal, lin, del, ext, onInput, onExt, fields, reduced}
-use Rattle.paper.specs.Rules.{modulo, inputs, steps, Store, find, remove, State, place, defines, entries, makesSeen, combination, clashes, differs, noBit, holdsGoal, after}
+use Rattle.paper.specs.Rules.{modulo, inputs, steps, Store, find, remove, State, place, entries, makesSeen, combination, holdsGoal, after}
 use Rattle.paper.specs.Answer.{inputsIn, goalIn, introducedIn, definedIn}
 use Rattle.paper.proofs.Stands.{Stands, stands-none}
-use Rattle.paper.proofs.Steps.{Steps, done, step, caseOf}
+use Rattle.paper.proofs.Steps.{Steps, done, step}
+
+-- the variable that a statement defines
+abbrev defines : Statement → ℕ
+defines = onExt 0 (λ i v p. 2 ^ v)
 
 -- the goal that is in force, or is still to come
 abbrev pub aimOf : ℕ → State → List Statement → Poly
@@ -62,7 +65,7 @@ module _ (k : ℕ) where
 
   -- a combination of stored polynomials is zero where they are
   zero-combination : (a : ℕ) (qs : List Pair) (s : Store) → StoreZero a s → Same (2 ^ k) (sumAt a (combination k (find s) qs)) 0
-  unfolding combination sumAt value
+  unfolding combination value
   zero-combination a [] s h = same-refl
   zero-combination a (q ∷ qs) s h =
       same-eq (sumAt-append a (products (reduced k (q .factor)) (find s (q .index))) (combination k (find s) qs)
@@ -132,7 +135,7 @@ module _ (k : ℕ) where
 
     module _ (is : List Poly) (es : ℕ) (ps : List Poly) (g : Good here is es ps) where
       next-input : (i : ℕ) (p : Written) → s .phase ≡ inputs → Next (input i p) is es ps
-      unfolding after entries makesSeen defines fields
+      unfolding after entries makesSeen fields
       next-input i p ph = record {
         ringed = refl;
         begun = g .begun;
@@ -146,7 +149,7 @@ module _ (k : ℕ) where
       }
 
       next-goal : (p : Written) → s .phase ≡ inputs → Next (goal p) is es ps
-      unfolding after entries makesSeen defines fields
+      unfolding after entries makesSeen fields
       next-goal p ph = record {
         ringed = refl;
         begun = omega arith;
@@ -167,8 +170,8 @@ module _ (k : ℕ) where
           (or-cases (s .reached) (holdsGoal (s .goal) (record { index = i; poly = p } ∷ [])) e)
 
       next-lin : (i : ℕ) (p : Written) (qs : List Pair) → s .phase ≡ steps
-          → differs k (find (s .store)) (lin i p qs) ≡ false → Next (lin i p qs) is es ps
-      unfolding after entries makesSeen defines fields differs
+          → not (equal (reduced k p) (reduce k (combination k (find (s .store)) qs))) ≡ false → Next (lin i p qs) is es ps
+      unfolding after entries makesSeen fields
       next-lin i p qs ph e = record {
         ringed = refl;
         begun = g .begun;
@@ -182,7 +185,7 @@ module _ (k : ℕ) where
       }
 
       next-del : (i : ℕ) → Next (del i) is es ps
-      unfolding after entries makesSeen defines fields holdsGoal any
+      unfolding after entries makesSeen fields holdsGoal any
       next-del i = record {
         ringed = refl;
         begun = g .begun;
@@ -195,9 +198,10 @@ module _ (k : ℕ) where
         hit = λ e. g .hit (none-more (s .reached) e);
       }
 
-      next-ext : (i v : ℕ) (p : Written) → s .phase ≡ steps → clashes k (s .seen) (ext i v p) ≡ false → noBit k (ext i v p) ≡ false
+      next-ext : (i v : ℕ) (p : Written) → s .phase ≡ steps → has (bitOr (vars (reduced k p)) (s .seen)) v ≡ false
+          → not (equal (product k (reduced k p) (reduced k p)) (reduced k p)) ≡ false
           → Next (ext i v p) is es ps
-      unfolding after entries makesSeen defines fields clashes noBit
+      unfolding after entries makesSeen fields
       next-ext i v p ph unseen square = record {
         ringed = refl;
         begun = g .begun;
@@ -224,7 +228,7 @@ module _ (k : ℕ) where
           fresh : bit (bitOr (vars r) (allVars ps)) v ≡ 0
           fresh = omega (arith, both, bit-or (vars r) (s .seen) v, bit-or (vars r) (allVars ps) v, g .witnessed v)
 
-      next : (st : Statement) → Stands (caseOf capacity here st) → Next st is es ps
+      next : (st : Statement) → Stands capacity here st → Next st is es ps
       unfolding place
       next (ring j) h = absurd (omega (arith, h .placed, g .begun))
       next (input i p) h = next-input i p (sym (h .placed))
@@ -233,7 +237,7 @@ module _ (k : ℕ) where
       next (del i) h = next-del i
       next (ext i v p) h = next-ext i v p (sym (h .placed)) (h .unseen) (h .square)
 
-      aim-next : (st : Statement) (sts : List Statement) → Stands (caseOf capacity here st) → aimOf k (after here st) sts ≡ aimOf k here (st ∷ sts)
+      aim-next : (st : Statement) (sts : List Statement) → Stands capacity here st → aimOf k (after here st) sts ≡ aimOf k here (st ∷ sts)
       unfolding after goalIn place
       aim-next (ring j) sts h = absurd (omega (arith, h .placed, g .begun))
       aim-next (input i p) sts h = refl
@@ -255,7 +259,6 @@ module _ (k : ℕ) where
     pub aim : aimOf k e [] ≡ aimOf k s sts
 
   none-defined : (st : Statement) (es w : ℕ) → bit es w ≡ 0 → bit (defines st) w ≡ 0 → bit (onExt es (λ i v p. bitOr (2 ^ v) es) st) w ≡ 0
-  unfolding defines
   none-defined (ring j) es w h d = h
   none-defined (input i p) es w h d = h
   none-defined (goal p) es w h d = h
@@ -265,11 +268,11 @@ module _ (k : ℕ) where
 
   module _ (capacity : ℕ) where
     -- one step and the rest
-    onward : (s e : State) (st : Statement) (sts : List Statement) (is : List Poly) (es : ℕ) (ps : List Poly) → Good s is es ps → Stands (caseOf capacity s st)
+    onward : (s e : State) (st : Statement) (sts : List Statement) (is : List Poly) (es : ℕ) (ps : List Poly) → Good s is es ps → Stands capacity s st
         → ((is : List Poly) (es : ℕ) (ps : List Poly) → Good (after s st) is es ps → Final (after s st) sts is es ps e) → Final s (st ∷ sts) is es ps e
     unfolding inputsIn introducedIn definedIn gather
     onward s e st sts is es ps g h rest =
-        subst (λ (x : State). Good x is es ps → Stands (caseOf capacity x st)
+        subst (λ (x : State). Good x is es ps → Stands capacity x st
         → ((is : List Poly) (es : ℕ) (ps : List Poly) → Good (after x st) is es ps → Final (after x st) sts is es ps e) → Final x (st ∷ sts) is es ps e)
         (sym path) go g h rest
       where
@@ -285,7 +288,7 @@ module _ (k : ℕ) where
         es′ : ℕ
         es′ = onExt es (λ i v p. bitOr (2 ^ v) es) st
 
-        go : Good (here capacity s) is es ps → Stands (caseOf capacity (here capacity s) st)
+        go : Good (here capacity s) is es ps → Stands capacity (here capacity s) st
             → ((is : List Poly) (es : ℕ) (ps : List Poly) → Good (after (here capacity s) st) is es ps → Final (after (here capacity s) st) sts is es ps e)
             → Final (here capacity s) (st ∷ sts) is es ps e
         go g h rest =
@@ -315,4 +318,4 @@ module _ (k : ℕ) where
       only = λ w n d. n;
       aim = refl;
     }
-    final (step {s} {e} {sts} st h r) is es ps g = onward s e st sts is es ps g (stands-none (caseOf capacity s st) h) (final r)
+    final (step {s} {e} {sts} st h r) is es ps g = onward s e st sts is es ps g (stands-none capacity s st h) (final r)

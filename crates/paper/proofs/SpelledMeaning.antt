@@ -13,8 +13,8 @@ use Rattle.ground.proofs.Congruence.{Same, same-refl, same-eq, same-add, same-c
 use Rattle.ground.specs.Lists.{every}
 use Rattle.ground.proofs.Tests.{by-cond, and-left, and-right}
 use Rattle.limits.specs.Limits.{variables}
-use Rattle.algebra.specs.Sets.{members}
-use Rattle.algebra.specs.Polynomial.{Term, Poly, keep, sumIf, coefOf, minusOne, Below, Reduced}
+use Rattle.algebra.specs.Polynomial.{members, Term, Poly, sumIf, coefOf, Below, Reduced}
+use Rattle.algebra.proofs.Values.{keep}
 use Rattle.algebra.proofs.Reduced.{is-reduce}
 use Rattle.paper.specs.Statement.{Written, isVariable, isTerm, inRange, setOf, asTerm, reduced}
 use Rattle.paper.proofs.Ranges.{term-in-range, keep-same}
@@ -55,7 +55,7 @@ field-below k (t ∷ p) e =
 -- ---- coefficients
 module _ (k : ℕ) where
   -- minus what c lacks is c
-  minus-back : (c : ℕ) → c < 2 ^ k → Same (2 ^ k) (minusOne k * (2 ^ k - c)) c
+  minus-back : (c : ℕ) → c < 2 ^ k → Same (2 ^ k) ((2 ^ k - 1) * (2 ^ k - c)) c
   minus-back c h =
       same-cancel (pow-pos k) {x = 2 ^ k - c} {y = 2 ^ k - c} same-refl
       (same-eq (once ∙ mul-comm (2 ^ k) (2 ^ k - c)) ⊳ record { same = mul-mod-left (2 ^ k - c) (2 ^ k) ∙ sym (mod-self (2 ^ k)) } ⊳ same-eq (let e : 2 ^ k ≡ 2 ^ k - c + c = omega arith in e))
@@ -63,7 +63,7 @@ module _ (k : ℕ) where
       once : 2 ^ k - c + (2 ^ k - 1) * (2 ^ k - c) ≡ 2 ^ k * (2 ^ k - c)
       once = omega (arith, add-mul 1 (2 ^ k - 1) (2 ^ k - c), ap (λ (x : ℕ). x * (2 ^ k - c)) (let e : 1 + (2 ^ k - 1) ≡ 2 ^ k = omega (arith, pow-pos k) in e))
 
-  coefficient-back : (c : ℕ) → c < 2 ^ k → (b : Bool) → Same (2 ^ k) (cond (not b) (minusOne k * cond b c (2 ^ k - c)) (cond b c (2 ^ k - c))) c
+  coefficient-back : (c : ℕ) → c < 2 ^ k → (b : Bool) → Same (2 ^ k) (cond (not b) ((2 ^ k - 1) * cond b c (2 ^ k - c)) (cond b c (2 ^ k - c))) c
   coefficient-back c h true = same-refl
   coefficient-back c h false = minus-back c h
 

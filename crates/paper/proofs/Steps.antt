@@ -10,37 +10,34 @@ use borrow.Author.Tests.{eqb-true, eqb-false}
 use Rattle.ground.specs.Lists.{gather}
 use Rattle.ground.proofs.Tests.{by-cond}
 use Rattle.limits.specs.Limits.{lineBytes}
-use Rattle.limits.specs.Verdicts.{LONGLINE, NOGOAL, NOTREACHED}
-use Rattle.paper.specs.Rules.{first, steps, storedTerms, State, start, place, Case, rules, after}
+use Rattle.limits.specs.Verdicts.{LONGLINE, FORM, NOGOAL, NOTREACHED}
+use Rattle.paper.specs.Rules.{first, steps, storedTerms, State, start, place, rules, after}
 use Rattle.paper.specs.Grammar.{Line, Read, got, stuck, statement}
 use Rattle.paper.specs.Statement.{Statement, ring, input, goal, lin, del, ext}
-use Rattle.paper.specs.Answer.{Answer, Outcome, stands, refused, judge, judgeRead, judgeLine, report, ending, proceed, run, ifRead, ifStands, acceptedFrom}
+use Rattle.paper.specs.Answer.{Answer, Outcome, stands, refused, judge, judgeLine, report, ending, run, ifRead, acceptedFrom}
 use Rattle.paper.proofs.Stands.{stands-none}
 
 positive : (n : ℕ) → (n ≡ 0 → ⊥) → 0 < n
 positive n h = omega (arith, h)
 
 module _ (capacity : ℕ) where
-  abbrev pub caseOf : State → Statement → Case
-  caseOf s st = record { capacity = capacity; state = s; statement = st }
-
   -- from s to e by statements that stand, in the order of the text
   pub data Steps : State → List Statement → State → Type 0 where
     done : {s : State} → Steps s [] s
-    step : {s e : State} {sts : List Statement} (st : Statement) → first rules (caseOf s st) ≡ 0 → Steps (after s st) sts e → Steps s (st ∷ sts) e
+    step : {s e : State} {sts : List Statement} (st : Statement) → first (rules capacity s st) ≡ 0 → Steps (after s st) sts e → Steps s (st ∷ sts) e
 
   -- ---- one line
   abbrev Judged : State → Read Statement → Outcome → Type 0
-  Judged s (got st r) (stands s′) = (first rules (caseOf s st) ≡ 0) × (s′ ≡ after s st)
+  Judged s (got st r) (stands s′) = (first (rules capacity s st) ≡ 0) × (s′ ≡ after s st)
   Judged s (stuck r) (stands s′) = ⊥
   Judged s r (refused v i) = 0 < v
 
-  judged-read : (s : State) (r : Read Statement) → Judged s r (judgeRead capacity s r)
-  unfolding judgeRead judge
+  judged-read : (s : State) (r : Read Statement) → Judged s r (elim r [ got st t ↦ judge capacity s st | stuck t ↦ refused FORM 0 ])
+  unfolding judge
   judged-read s (got st r) =
-      by-cond (Judged s (got st r)) (eqb (first rules (caseOf s st)) 0)
-      (λ e. (eqb-true (first rules (caseOf s st)) 0 e, refl))
-      (λ e. positive (first rules (caseOf s st)) (eqb-false (first rules (caseOf s st)) 0 e))
+      by-cond (Judged s (got st r)) (eqb (first (rules capacity s st)) 0)
+      (λ e. (eqb-true (first (rules capacity s st)) 0 e, refl))
+      (λ e. positive (first (rules capacity s st)) (eqb-false (first (rules capacity s st)) 0 e))
   judged-read s (stuck r) = omega arith
 
   judged : (s : State) (l : Line) → Judged s (statement l) (judgeLine capacity s l)
@@ -104,8 +101,8 @@ module _ (capacity : ℕ) where
 
   module _ (s : State) (n : ℕ) (ls : List Line) (rest : (s′ : State) → Ran s′ (λ h. acceptedFrom capacity s′ h ls) (gather (λ l. ifRead (statement l)) ls) (run capacity s′ n ls)) where
     onward : (r : Read Statement) (o : Outcome) → Judged s r o
-        → Ran s (λ h. ifStands r o h (λ s′ h′. acceptedFrom capacity s′ h′ ls)) (ifRead r ++ gather (λ l. ifRead (statement l)) ls)
-        (proceed o (λ s′. run capacity s′ n ls) (λ v i. report s v n i))
+        → Ran s (λ h. elim o [ stands s′ ↦ acceptedFrom capacity s′ (ifRead r ++ h) ls | refused v i ↦ h ]) (ifRead r ++ gather (λ l. ifRead (statement l)) ls)
+        (elim o [ stands s′ ↦ run capacity s′ n ls | refused v i ↦ report s v n i ])
     onward (got st r) (stands s′) j =
         let f = rest s′ in
         record {
@@ -147,4 +144,4 @@ module _ (capacity : ℕ) where
   unfolding start
   opened done q = subst (λ (x : State). Opened [] x) (sym q) nothing
   opened (step {s} {e} {sts} st h r) q =
-      first-ring st (stands-none (caseOf s st) h .placed ∙ ap (λ (x : State). x .phase) q) (subst (λ (x : State). Steps (after x st) sts e) q r)
+      first-ring st (stands-none capacity s st h .placed ∙ ap (λ (x : State). x .phase) q) (subst (λ (x : State). Steps (after x st) sts e) q r)

@@ -1,17 +1,14 @@
--- The answer for a text and its lent room, and what the text says: ring, inputs, goal, what it introduces, and the counts over its accepted statements.
-use mathlib.Core.Bool.{_||_, cond}
-use mathlib.Core.List.{List, [], _∷_, map}
-use Prim.Native.Nat.{ℕ, suc, _/_, min, _+_}
-use lib.Dec.{eqb, leb, ltb}
-use lib.ListN.{length, replicate}
+-- The answer for a text and its lent room, and what the text says.
+use mathlib.Core.{Bool._||_, Bool.cond, List.List, List.[], List._∷_, List._++_, List.map}
+use Prim.Native.Nat.{ℕ, suc, _+_, _/_, _^_, min}
+use lib.{Dec.eqb, Dec.leb, Dec.ltb, ListN.length, ListN.replicate, Bits.bitOr}
 use Rattle.limits.specs.Limits.{textBytes, lineBytes, termWords, leastPool, mostPoolTerms, leastScratch}
 use Rattle.limits.specs.Verdicts.{ACCEPTED, SHORT, LONGTEXT, LONGLINE, FORM, TERMS, NOGOAL, NOTREACHED}
-use Rattle.paper.specs.Rules.{first, steps, storedTerms, State, start, stored, find, rules, after, defines, entries, productCount}
-use Rattle.paper.specs.Grammar.{Bytes, Line, lines, Read, got, stuck, statement}
-use Rattle.paper.specs.Statement.{Statement, cases, onRing, onInput, onGoal, onDel, reduced}
-use lib.Bits.{bitOr}
 use Rattle.ground.specs.Lists.{gather}
 use Rattle.algebra.specs.Polynomial.{Poly}
+use Rattle.paper.specs.Statement.{Statement, ring, input, goal, lin, del, ext, onRing, onInput, onGoal, onDel, onExt, reduced}
+use Rattle.paper.specs.Grammar.{Bytes, Line, lines, Read, got, stuck, statement}
+use Rattle.paper.specs.Rules.{first, steps, storedTerms, State, start, stored, find, rules, after, entries, productCount}
 
 pub record Answer : Type 0 where
   pub verdict : ℕ
@@ -27,22 +24,17 @@ pub data Outcome : Type 0 where
   refused : ℕ → ℕ → Outcome
 
 unfoldable pub indexOf : Statement → ℕ
-indexOf = cases (λ k. 0) (λ i p. i) (λ p. 0) (λ i p qs. i) (λ i. i) (λ i v p. i)
+indexOf st = elim st [ ring k ↦ 0 | input i p ↦ i | goal p ↦ 0 | lin i p qs ↦ i | del i ↦ i | ext i v p ↦ i ]
 
 -- the index counts from TERMS on
 unfoldable pub judge : ℕ → State → Statement → Outcome
 judge capacity s st =
-    let v : ℕ = first rules (record { capacity = capacity; state = s; statement = st }) in
-    let next : Outcome = stands (after s st) in
-    cond (eqb v ACCEPTED) next (refused v (cond (leb TERMS v) (indexOf st) 0))
-
-unfoldable pub judgeRead : ℕ → State → Read Statement → Outcome
-judgeRead capacity s (got st r) = judge capacity s st
-judgeRead capacity s (stuck r) = refused FORM 0
+    let v : ℕ = first (rules capacity s st) in
+    cond (eqb v ACCEPTED) (stands (after s st)) (refused v (cond (leb TERMS v) (indexOf st) 0))
 
 unfoldable pub judgeLine : ℕ → State → Line → Outcome
 judgeLine capacity s l =
-    let read : Outcome = judgeRead capacity s (statement l) in
+    let read : Outcome = elim (statement l) [ got st r ↦ judge capacity s st | stuck r ↦ refused FORM 0 ] in
     cond (ltb lineBytes (length (l .content))) (refused LONGLINE 0) read
 
 -- ---- the whole text
@@ -52,14 +44,10 @@ report s v n i = record { verdict = v; line = n; index = i; products = s .produc
 unfoldable pub ending : State → ℕ → Answer
 ending s n = cond (eqb (s .phase) steps) (cond (s .reached) (report s ACCEPTED 0 0) (report s NOTREACHED n 0)) (report s NOGOAL n 0)
 
-abbrev pub proceed : Outcome → (State → Answer) → (ℕ → ℕ → Answer) → Answer
-proceed (stands s) on off = on s
-proceed (refused v i) on off = off v i
-
 -- line by line, n of them before
 unfoldable pub run : ℕ → State → ℕ → List Line → Answer
 run capacity s n [] = ending s n
-run capacity s n (l ∷ ls) = proceed (judgeLine capacity s l) (λ s′. run capacity s′ (suc n) ls) (λ v i. report s v (suc n) i)
+run capacity s n (l ∷ ls) = elim (judgeLine capacity s l) [ stands s′ ↦ run capacity s′ (suc n) ls | refused v i ↦ report s v (suc n) i ]
 
 -- the terms that a pool holds
 unfoldable pub capacityOf : ℕ → ℕ
@@ -77,7 +65,7 @@ answer text pool scratch =
 unfoldable pub roomAfter : ℕ → List ℕ → List ℕ
 roomAfter verdict room = cond (eqb verdict SHORT || eqb verdict LONGTEXT) room (replicate (length room) 0)
 
--- ---- the whole text, accepted or not
+-- ---- what a text says: all its statements; and those that are accepted, the newest first
 abbrev pub ifRead : Read Statement → List Statement
 ifRead (got st r) = st ∷ []
 ifRead (stuck r) = []
@@ -85,13 +73,26 @@ ifRead (stuck r) = []
 unfoldable pub statements : Bytes → List Statement
 statements text = gather (λ l. ifRead (statement l)) (lines text)
 
+unfoldable pub acceptedFrom : ℕ → State → List Statement → List Line → List Statement
+acceptedFrom capacity s h [] = h
+acceptedFrom capacity s h (l ∷ ls) = elim (judgeLine capacity s l) [ stands s′ ↦ acceptedFrom capacity s′ (ifRead (statement l) ++ h) ls | refused v i ↦ h ]
+
+unfoldable pub accepted : Bytes → ℕ → List Statement
+accepted text pool = acceptedFrom (capacityOf pool) start [] (lines text)
+
 unfoldable pub ringIn : List Statement → ℕ
 ringIn [] = 0
 ringIn (st ∷ sts) = onRing (ringIn sts) (λ k. k) st
 
+-- the variables that ext lines define
 unfoldable pub definedIn : List Statement → ℕ
 definedIn [] = 0
-definedIn (st ∷ sts) = bitOr (defines st) (definedIn sts)
+definedIn (st ∷ sts) = bitOr (onExt 0 (λ i v p. 2 ^ v) st) (definedIn sts)
+
+-- a sum over accepted statements; f takes those before and the statement
+unfoldable pub sumOver : (List Statement → Statement → ℕ) → List Statement → ℕ
+sumOver f [] = 0
+sumOver f (st ∷ h) = sumOver f h + f h st
 
 module _ (k : ℕ) where
   unfoldable pub inputsIn : List Statement → List Poly
@@ -105,26 +106,7 @@ module _ (k : ℕ) where
   unfoldable pub introducedIn : List Statement → List Poly
   introducedIn sts = gather (λ st. map (λ e. e .poly) (entries k st)) sts
 
--- ---- the accepted statements, the newest first
-abbrev pub ifStands : Read Statement → Outcome → List Statement → (State → List Statement → List Statement) → List Statement
-ifStands (got st r) (stands s) h go = go s (st ∷ h)
-ifStands (got st r) (refused v i) h go = h
-ifStands (stuck r) o h go = h
-
-unfoldable pub acceptedFrom : ℕ → State → List Statement → List Line → List Statement
-acceptedFrom capacity s h [] = h
-acceptedFrom capacity s h (l ∷ ls) = ifStands (statement l) (judgeLine capacity s l) h (λ s′ h′. acceptedFrom capacity s′ h′ ls)
-
-unfoldable pub accepted : Bytes → ℕ → List Statement
-accepted text pool = acceptedFrom (capacityOf pool) start [] (lines text)
-
--- ---- sums over them; f takes those before and the statement
-unfoldable pub sumOver : (List Statement → Statement → ℕ) → List Statement → ℕ
-sumOver f [] = 0
-sumOver f (st ∷ h) = sumOver f h + f h st
-
-module _ (k : ℕ) where
-  -- the polynomial that an index names after them
+  -- ---- the counts over accepted statements; `named` is the polynomial that an index names after them
   unfoldable pub named : List Statement → ℕ → Poly
   named [] i = []
   named (st ∷ h) i = cond (stored (entries k st) i) (find (entries k st) i) (onDel (named h i) (λ j. cond (eqb i j) [] (named h i)) st)

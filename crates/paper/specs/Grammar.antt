@@ -1,13 +1,10 @@
 -- The lines of a text, and how each is read from left to right.
-use mathlib.Core.Bool.{Bool, true, false, cond, _&&_, not}
-use mathlib.Core.List.{List, [], _∷_}
-use Prim.Native.Nat.{ℕ, zero, suc, _+_, _-_, _*_}
-use Prim.Native.String.{String, [] as nil, _∷_ as cons}
-use Prim.Native.Char.{code}
-use lib.Dec.{eqb, leb}
-use lib.ListN.{length}
+use mathlib.Core.{Bool.Bool, Bool.true, Bool.false, Bool.cond, Bool._&&_, Bool.not, List.List, List.[], List._∷_}
+use Prim.Native.{Nat.ℕ, Nat.zero, Nat.suc, Nat._+_, Nat._-_, Nat._*_, String.String, String.[] as nil, String._∷_ as cons, Char.code}
+use lib.{Dec.eqb, Dec.leb, ListN.length}
 use Rattle.paper.specs.Statement.{WrittenTerm, Written, Pair, Statement, ring, input, goal, lin, del, ext}
 
+-- ---- a text is a list of bytes; each of its lines ends with byte 10
 abbrev pub Bytes : Type 0
 Bytes = List ℕ
 
@@ -29,6 +26,7 @@ unfoldable pub lines : Bytes → List Line
 lines [] = []
 lines (b ∷ s) = cond (eqb b (code "\n")) (record { content = []; ended = true } ∷ lines s) (onFirst b (lines s))
 
+-- ---- readers: one that fails stops at the first byte that no well-formed line with this beginning has
 -- what was read and the bytes left, or the bytes from the one that cannot stand there
 pub data Read (A : Type 0) : Type 0 where
   got : A → Bytes → Read A
@@ -92,25 +90,15 @@ sign [] = got false []
 sign (b ∷ s) = cond (eqb b (code "-")) (got true s) (got false (b ∷ s))
 
 unfoldable pub term : Reader WrittenTerm
-term = do
-  negative ← sign
-  magnitude ← decimal
-  variables ← each (code ".") decimal
-  give (record { negative = negative; magnitude = magnitude; variables = variables })
+term = do n ← sign; m ← decimal; vs ← each (code ".") decimal; give (record { negative = n; magnitude = m; variables = vs })
 
 -- the field `0` is the zero polynomial
-unfoldable pub isZero : WrittenTerm → Bool
-isZero t = not (t .negative) && eqb (t .magnitude) 0 && elim (t .variables) [ [] ↦ true | v ∷ vs ↦ false ]
-
 unfoldable pub asWritten : WrittenTerm → List WrittenTerm → Written
-asWritten t [] = cond (isZero t) [] (t ∷ [])
+asWritten t [] = cond (not (t .negative) && eqb (t .magnitude) 0 && elim (t .variables) [ [] ↦ true | v ∷ vs ↦ false ]) [] (t ∷ [])
 asWritten t (u ∷ ts) = t ∷ u ∷ ts
 
 unfoldable pub polynomial : Reader Written
-polynomial = do
-  t ← term
-  ts ← each (code " ") term
-  give (asWritten t ts)
+polynomial = do t ← term; ts ← each (code " ") term; give (asWritten t ts)
 
 -- ---- lines: a keyword, then fields, each behind a tab
 unfoldable pub tab : Reader (Unit {0})
@@ -125,22 +113,15 @@ field = do tab; polynomial
 unfoldable pub pair : Reader Pair
 pair = do i ← decimal; f ← field; give (record { index = i; factor = f })
 
-pub record Kind : Type 0 where
-  pub keyword : Bytes
-  pub fields : Reader Statement
-
-abbrev pub kind : String → Reader Statement → Kind
-kind w f = record { keyword = bytes w; fields = f }
-
 -- no two keywords begin with the same byte
-unfoldable pub kinds : List Kind
+unfoldable pub kinds : List (Bytes × Reader Statement)
 kinds =
-    kind "ring" (do k ← number; give (ring k))
-    ∷ kind "in" (do i ← number; p ← field; give (input i p))
-    ∷ kind "goal" (do p ← field; give (goal p))
-    ∷ kind "lin" (do i ← number; p ← field; tab; q ← pair; qs ← each (code "\t") pair; give (lin i p (q ∷ qs)))
-    ∷ kind "del" (do i ← number; give (del i))
-    ∷ kind "ext" (do i ← number; v ← number; p ← field; give (ext i v p))
+    (bytes "ring", do k ← number; give (ring k))
+    ∷ (bytes "in", do i ← number; p ← field; give (input i p))
+    ∷ (bytes "goal", do p ← field; give (goal p))
+    ∷ (bytes "lin", do i ← number; p ← field; tab; q ← pair; qs ← each (code "\t") pair; give (lin i p (q ∷ qs)))
+    ∷ (bytes "del", do i ← number; give (del i))
+    ∷ (bytes "ext", do i ← number; v ← number; p ← field; give (ext i v p))
     ∷ []
 
 unfoldable pub beginsAlike : Bytes → Bytes → Bool
@@ -148,17 +129,10 @@ beginsAlike [] s = false
 beginsAlike (c ∷ w) [] = false
 beginsAlike (c ∷ w) (b ∷ s) = eqb b c
 
-unfoldable pub oneOf : List Kind → Reader Statement
+unfoldable pub oneOf : List (Bytes × Reader Statement) → Reader Statement
 oneOf [] s = stuck s
-oneOf (k ∷ ks) s =
-    let this : Reader Statement = (do literal (k .keyword); st ← k .fields; end; give st) in
-    let read : Read Statement = this s in
-    cond (beginsAlike (k .keyword) s) read (oneOf ks s)
+oneOf (k ∷ ks) s = let read : Read Statement = (do literal (k .0); st ← k .1; end; give st) s in cond (beginsAlike (k .0) s) read (oneOf ks s)
 
 -- a line without byte 10 stops short
-unfoldable pub stopShort : Read Statement → Read Statement
-stopShort (got st s) = stuck s
-stopShort (stuck s) = stuck s
-
 unfoldable pub statement : Line → Read Statement
-statement l = cond (l .ended) (oneOf kinds (l .content)) (stopShort (oneOf kinds (l .content)))
+statement l = let read : Read Statement = oneOf kinds (l .content) in cond (l .ended) read (next read (λ st r. stuck r))

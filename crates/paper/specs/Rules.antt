@@ -1,29 +1,14 @@
 -- When a statement is refused, in the order of the verdicts, and what one that stands changes.
-use mathlib.Core.Bool.{Bool, cond, false, _||_, not}
-use mathlib.Core.List.{List, [], _∷_, _++_, map}
+use mathlib.Core.{Bool.Bool, Bool.cond, Bool.false, Bool._||_, Bool.not, List.List, List.[], List._∷_, List._++_, List.map}
 use Prim.Native.Nat.{ℕ, _+_, _*_, _^_}
-use Rattle.limits.specs.Verdicts.{ACCEPTED, NUMBER, TERMS, ORDER, TAKEN, MISSING, SEEN, PRODUCTS, MISMATCH, NOTBIT, FULL}
-use lib.Dec.{eqb, leb, ltb}
-use lib.ListN.{length}
-use Rattle.ground.specs.Lists.{any, total, every}
-use Rattle.algebra.specs.Polynomial.{Poly, vars, equal, products, reduce, product, extension, allVars}
-use lib.Bits.{bitOr}
+use lib.{Dec.eqb, Dec.leb, Dec.ltb, ListN.length, Bits.bitOr}
 use Rattle.limits.specs.Limits.{storedPolynomials, lineProducts}
-use Rattle.algebra.specs.Sets.{has}
-use Rattle.paper.specs.Statement.{Pair, Statement, cases, onRing, onInput, onGoal, onLin, onDel, onExt, newIndex, namedIndices, fields, numbersInRange, tooManyTerms, reduced}
+use Rattle.limits.specs.Verdicts.{ACCEPTED, NUMBER, TERMS, ORDER, TAKEN, MISSING, SEEN, PRODUCTS, MISMATCH, NOTBIT, FULL}
+use Rattle.ground.specs.Lists.{any, total, every}
+use Rattle.algebra.specs.Polynomial.{Poly, vars, equal, products, reduce, product, extension, allVars, has}
+use Rattle.paper.specs.Statement.{Pair, Statement, ring, input, goal, lin, del, ext, onRing, onInput, onGoal, onLin, onDel, onExt, newIndex, namedIndices, fields, numbersInRange, tooManyTerms, reduced}
 
-pub record Row (A : Type 0) : Type 0 where
-  pub verdict : ℕ
-  pub refuses : A → Bool
-
-abbrev pub row : {A : Type 0} → ℕ → (A → Bool) → Row A
-row v f = record { verdict = v; refuses = f }
-
-unfoldable pub first : {A : Type 0} → List (Row A) → A → ℕ
-first [] x = ACCEPTED
-first (r ∷ rs) x = let rest : ℕ = first rs x in cond (r .refuses x) (r .verdict) rest
-
--- the integers modulo 2 ^ k
+-- ---- the state between two lines; its ring is the integers modulo 2 ^ k
 pub data Ring : Type 0 where
   modulo : ℕ → Ring
 
@@ -77,13 +62,9 @@ pub record State : Type 0 where
 unfoldable pub start : State
 start = record { phase = opening; ring = modulo 0; store = []; seen = 0; goal = []; reached = false; products = 0 }
 
--- where a statement may stand
+-- ---- what a statement does; first, where it may stand
 unfoldable pub place : Statement → ℕ
-place = cases (λ k. opening) (λ i p. inputs) (λ p. inputs) (λ i p qs. steps) (λ i. steps) (λ i v p. steps)
-
--- the variable that a statement defines
-unfoldable pub defines : Statement → ℕ
-defines = onExt 0 (λ i v p. 2 ^ v)
+place st = elim st [ ring k ↦ opening | input i p ↦ inputs | goal p ↦ inputs | lin i p qs ↦ steps | del i ↦ steps | ext i v p ↦ steps ]
 
 module _ (k : ℕ) where
   abbrev pub entry : ℕ → Poly → Store
@@ -91,11 +72,11 @@ module _ (k : ℕ) where
 
   -- what a statement stores: an ext -v + p, the others the polynomial they state
   unfoldable pub entries : Statement → Store
-  entries = cases (λ j. []) (λ i p. entry i (reduced k p)) (λ p. []) (λ i p qs. entry i (reduced k p)) (λ i. []) (λ i v p. entry i (extension k v (reduced k p)))
+  entries st = elim st [ ring j ↦ [] | input i p ↦ entry i (reduced k p) | goal p ↦ [] | lin i p qs ↦ entry i (reduced k p) | del i ↦ [] | ext i v p ↦ entry i (extension k v (reduced k p)) ]
 
-  -- the variables that a statement makes seen: all that its reduced polynomials hold, and its own
+  -- the variables that a statement makes seen: all that its reduced polynomials hold, and the v of an ext
   unfoldable pub makesSeen : Statement → ℕ
-  makesSeen st = bitOr (defines st) (allVars (map (reduced k) (fields st)))
+  makesSeen st = bitOr (onExt 0 (λ i v p. 2 ^ v) st) (allVars (map (reduced k) (fields st)))
 
   -- the sum of factor times named polynomial
   unfoldable pub combination : (ℕ → Poly) → List Pair → Poly
@@ -107,46 +88,32 @@ module _ (k : ℕ) where
       onLin 0 (λ i p qs. total (λ q. length (reduced k (q .factor)) * length (named (q .index))) qs) st
       + onExt 0 (λ i v p. length (reduced k p) * length (reduced k p)) st
 
-  -- an ext line whose v is seen or stands in p
-  unfoldable pub clashes : ℕ → Statement → Bool
-  clashes seen = onExt false (λ i v p. has (bitOr (vars (reduced k p)) seen) v)
-
-  -- a lin line whose stated polynomial is not the sum
-  unfoldable pub differs : (ℕ → Poly) → Statement → Bool
-  differs named = onLin false (λ i p qs. not (equal (reduced k p) (reduce k (combination named qs))))
-
-  -- an ext line whose p is no bit
-  unfoldable pub noBit : Statement → Bool
-  noBit = onExt false (λ i v p. not (equal (product k (reduced k p) (reduced k p)) (reduced k p)))
-
 -- no room for the entries beside the store in a pool of so many terms
 unfoldable pub overfull : ℕ → Store → Store → Bool
 overfull capacity s [] = false
 overfull capacity s (e ∷ es) = leb storedPolynomials (length s) || ltb capacity (storedTerms s + length (e .poly))
 
-pub record Case : Type 0 where
-  pub capacity : ℕ
-  pub state : State
-  pub statement : Statement
+-- ---- the rules, each a verdict and its test: the first whose test holds gives the verdict, and 0 is given where none does
+unfoldable pub first : List (ℕ × Bool) → ℕ
+first [] = ACCEPTED
+first (r ∷ rs) = let rest : ℕ = first rs in cond (r .1) (r .0) rest
 
-abbrev pub ringOf : Case → ℕ
-ringOf c = bits (c .state .ring)
-
-unfoldable pub rules : List (Row Case)
-rules =
-    row NUMBER (λ c. not (numbersInRange (c .statement)))
-    ∷ row TERMS (λ c. any tooManyTerms (fields (c .statement)))
-    ∷ row ORDER (λ c. not (eqb (place (c .statement)) (c .state .phase)))
-    ∷ row TAKEN (λ c. any (stored (c .state .store)) (newIndex (c .statement)))
-    ∷ row MISSING (λ c. not (every (stored (c .state .store)) (namedIndices (c .statement))))
-    ∷ row SEEN (λ c. clashes (ringOf c) (c .state .seen) (c .statement))
-    ∷ row PRODUCTS (λ c. ltb lineProducts (productCount (ringOf c) (find (c .state .store)) (c .statement)))
-    ∷ row MISMATCH (λ c. differs (ringOf c) (find (c .state .store)) (c .statement))
-    ∷ row NOTBIT (λ c. noBit (ringOf c) (c .statement))
-    ∷ row FULL (λ c. overfull (c .capacity) (c .state .store) (entries (ringOf c) (c .statement)))
+unfoldable pub rules : ℕ → State → Statement → List (ℕ × Bool)
+rules capacity s st =
+    let k : ℕ = bits (s .ring) in
+    (NUMBER, not (numbersInRange st))
+    ∷ (TERMS, any tooManyTerms (fields st))
+    ∷ (ORDER, not (eqb (place st) (s .phase)))
+    ∷ (TAKEN, any (stored (s .store)) (newIndex st))
+    ∷ (MISSING, not (every (stored (s .store)) (namedIndices st)))
+    ∷ (SEEN, onExt false (λ i v p. has (bitOr (vars (reduced k p)) (s .seen)) v) st)
+    ∷ (PRODUCTS, ltb lineProducts (productCount k (find (s .store)) st))
+    ∷ (MISMATCH, onLin false (λ i p qs. not (equal (reduced k p) (reduce k (combination k (find (s .store)) qs)))) st)
+    ∷ (NOTBIT, onExt false (λ i v p. not (equal (product k (reduced k p) (reduced k p)) (reduced k p))) st)
+    ∷ (FULL, overfull capacity (s .store) (entries k st))
     ∷ []
 
--- some stored polynomial is g
+-- ---- what a statement that stands changes; first, whether some stored polynomial is g
 unfoldable pub holdsGoal : Poly → Store → Bool
 holdsGoal g s = any (λ e. equal (e .poly) g) s
 

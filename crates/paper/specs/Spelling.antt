@@ -1,18 +1,14 @@
 -- The fixed spelling of a polynomial, and the spelling writer.
-use mathlib.Core.Bool.{_&&_, not, cond}
-use mathlib.Core.List.{List, [], _∷_, _++_}
-use Prim.Native.Nat.{ℕ, zero, suc, _+_, _-_, _/_, _%_, _^_}
-use Prim.Native.Char.{code}
-use lib.Dec.{eqb, leb, ltb}
-use lib.ListN.{length, drop, replicate}
-use Rattle.ground.specs.Lists.{gather}
+use mathlib.Core.{Bool.Bool, Bool._&&_, Bool.not, Bool.cond, List.List, List.[], List._∷_, List._++_}
+use Prim.Native.{Nat.ℕ, Nat.zero, Nat.suc, Nat._+_, Nat._-_, Nat._/_, Nat._%_, Nat._^_, Char.code}
+use lib.{Dec.eqb, Dec.leb, Dec.ltb, ListN.length, ListN.drop, ListN.replicate}
 use Rattle.limits.specs.Limits.{variables, lineBytes, leastSpellingScratch}
-use Rattle.algebra.specs.Sets.{members}
-use Rattle.algebra.specs.Polynomial.{Term, Poly}
 use Rattle.limits.specs.Verdicts.{ACCEPTED, SHORT, LONGLINE, FORM, NUMBER, TERMS, FULL}
-use Rattle.paper.specs.Rules.{Row, row, first}
-use Rattle.paper.specs.Grammar.{Bytes, bytes, Read, got, stuck, Reader, _>>=_, _>>_, give, end, polynomial}
+use Rattle.ground.specs.Lists.{gather}
+use Rattle.algebra.specs.Polynomial.{members, Term, Poly}
 use Rattle.paper.specs.Statement.{Written, isRing, inRange, tooManyTerms, reduced}
+use Rattle.paper.specs.Grammar.{Bytes, bytes, Read, got, stuck, Reader, _>>=_, _>>_, give, end, polynomial}
+use Rattle.paper.specs.Rules.{first}
 
 -- ---- the spelling
 -- the decimal of n, which has at most d digits
@@ -45,29 +41,17 @@ pub record Spelled : Type 0 where
 abbrev pub refuse : ℕ → Spelled
 refuse v = record { verdict = v; spelling = [] }
 
-pub record Request : Type 0 where
-  pub k : ℕ
-  pub room : ℕ
-  pub poly : Written
-
-unfoldable pub spellingOf : Request → Bytes
-spellingOf r = spell (r .k) (reduced (r .k) (r .poly))
-
-unfoldable pub spellingRules : List (Row Request)
-spellingRules =
-    row NUMBER (λ r. not (isRing (r .k) && inRange (r .poly)))
-    ∷ row TERMS (λ r. tooManyTerms (r .poly))
-    ∷ row FULL (λ r. ltb (r .room) (length (spellingOf r)))
+unfoldable pub spellingRules : ℕ → ℕ → Written → List (ℕ × Bool)
+spellingRules k room p =
+    (NUMBER, not (isRing k && inRange p))
+    ∷ (TERMS, tooManyTerms p)
+    ∷ (FULL, ltb room (length (spell k (reduced k p))))
     ∷ []
 
-unfoldable pub spellRequest : Request → Spelled
-spellRequest r =
-    let v : ℕ = first spellingRules r in
-    let done : Spelled = record { verdict = ACCEPTED; spelling = spellingOf r } in
-    cond (eqb v ACCEPTED) done (refuse v)
-
 unfoldable pub spellRead : ℕ → ℕ → Read Written → Spelled
-spellRead k room (got p s) = spellRequest (record { k = k; room = room; poly = p })
+spellRead k room (got p s) =
+    let v : ℕ = first (spellingRules k room p) in
+    cond (eqb v ACCEPTED) (record { verdict = ACCEPTED; spelling = spell k (reduced k p) }) (refuse v)
 spellRead k room (stuck s) = refuse FORM
 
 unfoldable pub wholeField : Reader Written

@@ -6,7 +6,7 @@ use lib.ListN.{length}
 use Rattle.paper.specs.Answer as paper
 use Rattle.paper.specs.Answer.{roomAfter}
 use Rattle.checker.specs.declared.answer.Answer.{Answer}
-use Rattle.checker.specs.Checked.{answerOf, Checked}
+use Rattle.checker.specs.Checked.{answerOf}
 use Rattle.promises.specs.Promises.{Decided, CheckedIsSound}
 use Rattle.promises.proofs.Promises.{accepted-is-sound}
 

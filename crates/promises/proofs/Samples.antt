@@ -5,13 +5,12 @@ use Prim.Native.Nat.{ℕ}
 use Prim.Native.String.{String}
 use Rattle.limits.specs.Limits.{hostPool, hostScratch, leastSpellingScratch, lineBytes}
 use Rattle.limits.specs.Verdicts.{ACCEPTED}
-use Rattle.paper.specs.Grammar.{bytes, onFirst, lines, literal, end, upTo, isDigit, digits, decimal, sign, term, isZero, asWritten, polynomial, tab, number, field as readField, pair, kinds, beginsAlike, oneOf, stopShort, statement}
-use Rattle.paper.specs.Answer.{Answer, answer, indexOf, judge, judgeRead, judgeLine, report, ending, run, capacityOf, unread}
-use Rattle.paper.specs.Spelling.{Spelled, spellField, spellDigits, spellNumber, spellCoefficient, spellTerm, spell, spellingOf, spellingRules, spellRequest, spellRead, wholeField}
-use Rattle.algebra.specs.Sets.{bit, has, members}
-use Rattle.algebra.specs.Polynomial.{vars, equal, times, products, put, insert, reduce, product, extension, allVars}
+use Rattle.paper.specs.Grammar.{bytes, onFirst, lines, literal, end, upTo, isDigit, digits, decimal, sign, term, asWritten, polynomial, tab, number, field as readField, pair, kinds, beginsAlike, oneOf, statement}
+use Rattle.paper.specs.Answer.{Answer, answer, indexOf, judge, judgeLine, report, ending, run, capacityOf, unread}
+use Rattle.paper.specs.Spelling.{Spelled, spellField, spellDigits, spellNumber, spellCoefficient, spellTerm, spell, spellingRules, spellRead, wholeField}
+use Rattle.algebra.specs.Polynomial.{bit, has, members, vars, equal, times, products, put, insert, reduce, product, extension, allVars}
 use Rattle.ground.specs.Lists.{every, any, total, gather}
-use Rattle.paper.specs.Rules.{first, stored, find, remove, storedTerms, start, place, defines, entries, makesSeen, combination, productCount, clashes, differs, noBit, overfull, rules, holdsGoal, after}
+use Rattle.paper.specs.Rules.{first, stored, find, remove, storedTerms, start, place, entries, makesSeen, combination, productCount, overfull, rules, holdsGoal, after}
 use Rattle.paper.specs.Statement.{newIndex, namedIndices, fields, isRing, isIndex, isVariable, isTerm, inRange, numbersInRange, tooManyTerms, setOf, asTerm, reduced}
 
 pub record Sample : Type 0 where
@@ -49,5 +48,5 @@ samples =
     ∷ []
 
 pub all-as-said : map (λ s. s .found) samples ≡ map (λ s. s .said) samples
-unfolding bit has members vars equal times products put insert reduce product extension allVars every any total gather first bytes onFirst lines literal end upTo newIndex namedIndices fields isDigit digits decimal sign term isZero asWritten polynomial tab number readField pair kinds beginsAlike oneOf stopShort statement isRing isIndex isVariable isTerm inRange numbersInRange tooManyTerms setOf asTerm reduced stored find remove storedTerms start place defines entries makesSeen combination productCount clashes differs noBit overfull rules holdsGoal after indexOf judge judgeRead judgeLine report ending run capacityOf unread answer spellDigits spellNumber spellCoefficient spellTerm spell spellingOf spellingRules spellRequest spellRead wholeField spellField numbers text field samples
+unfolding bit has members vars equal times products put insert reduce product extension allVars every any total gather first bytes onFirst lines literal end upTo newIndex namedIndices fields isDigit digits decimal sign term asWritten polynomial tab number readField pair kinds beginsAlike oneOf statement isRing isIndex isVariable isTerm inRange numbersInRange tooManyTerms setOf asTerm reduced stored find remove storedTerms start place entries makesSeen combination productCount overfull rules holdsGoal after indexOf judge judgeLine report ending run capacityOf unread answer spellDigits spellNumber spellCoefficient spellTerm spell spellingRules spellRead wholeField spellField numbers text field samples
 all-as-said = refl

@@ -13,10 +13,19 @@ use Rattle.paper.specs.Statement.{Written, inRange, asTerm, reduced}
 use Rattle.paper.specs.Spelling.{spell, wholeField}
 use Rattle.paper.proofs.ReadBack.{writtenTerm, spell-back}
 use Rattle.paper.proofs.SpelledMeaning.{field-below, meaning-back}
-use Rattle.promises.specs.Promises.{ReadsAs, ReadBack, SpelledTwice, OneSpelling}
+use Rattle.promises.specs.Promises.{ReadBack, SpelledTwice, OneSpelling}
 
 pub read-back : ReadBack
-read-back k p r = record { field = map (writtenTerm k) p; reads = spell-back k (2 ^ variables) p r; means = meaning-back k p r }
+read-back k p r = (map (writtenTerm k) p, spell-back k (2 ^ variables) p r, meaning-back k p r)
+
+-- s is a whole field, and p is what it means at k
+record ReadsAs (k : ℕ) (s : Bytes) (p : Poly) : Type 0 where
+  field : Written
+  reads : wholeField s ≡ got field []
+  means : reduced k field ≡ p
+
+back : (k : ℕ) (p : Poly) → Reduced k (2 ^ variables) p → ReadsAs k (spell k p) p
+back k p r = let b = read-back k p r in record { field = b .0; reads = b .1; means = b .2 }
 
 reduced-field : (k : ℕ) (f : Written) → inRange f ≡ true → Reduced k (2 ^ variables) (reduced k f)
 unfolding reduced
@@ -33,7 +42,7 @@ one-reading {k} {s} {p} {q} x y =
 pub spelled-twice : SpelledTwice
 spelled-twice k f g e r =
     ap (spell k)
-    (one-reading (record { field = g; reads = r; means = refl }) (read-back k (reduced k f) (reduced-field k f e)))
+    (one-reading (record { field = g; reads = r; means = refl }) (back k (reduced k f) (reduced-field k f e)))
 
 -- an equal text reads alike
 again : {k : ℕ} {s t : Bytes} {p : Poly} → s ≡ t → ReadsAs k t p → ReadsAs k s p
@@ -46,6 +55,6 @@ one-meaning k f g ef eg = one-form k (map (asTerm k) f) (map (asTerm k) g) (2 ^ 
 
 pub one-spelling : OneSpelling
 one-spelling k f g ef eg = (
-  λ e. one-meaning k f g ef eg .0 (one-reading (read-back k (reduced k f) (reduced-field k f ef)) (again e (read-back k (reduced k g) (reduced-field k g eg)))),
+  λ e. one-meaning k f g ef eg .0 (one-reading (back k (reduced k f) (reduced-field k f ef)) (again e (back k (reduced k g) (reduced-field k g eg)))),
   λ h. ap (spell k) (one-meaning k f g ef eg .1 h),
 )

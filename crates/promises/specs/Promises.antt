@@ -1,13 +1,9 @@
 -- What is promised, one type a promise. Each is proved in proofs/.
-use mathlib.Core.Path.{_≡_}
-use mathlib.Core.Bool.{true}
-use mathlib.Core.Logic.{_⊎_, _↔_}
-use mathlib.Core.List.{List, [], map}
+use mathlib.Core.{Path._≡_, Bool.true, Logic._⊎_, Logic._↔_, List.List, List.[], List._++_, List.map}
 use Prim.Native.Nat.{ℕ, _+_, _*_, _%_, _^_, _<_}
 use Rattle.limits.specs.Limits.{variables}
 use Rattle.limits.specs.Verdicts.{ACCEPTED, SHORT, LONGTEXT}
-use Rattle.algebra.specs.Sets.{DifferOnlyAt, Apart}
-use Rattle.algebra.specs.Polynomial.{Poly, value, vars, coefOf, reduce, sum, product, Below, Reduced, AllZero, Forced, Derived}
+use Rattle.algebra.specs.Polynomial.{DifferOnlyAt, Apart, Poly, value, vars, coefOf, reduce, product, Below, Reduced, AllZero, Forced, Derived}
 use Rattle.paper.specs.Statement.{Written, Statement, inRange, asTerm, reduced}
 use Rattle.paper.specs.Grammar.{Bytes, got}
 use Rattle.paper.specs.Answer.{Answer, answer, statements, ringIn, definedIn, inputsIn, goalIn, introducedIn, accepted, productsIn, introducedPolynomials, deletedPolynomials, introducedTerms, deletedTerms}
@@ -17,7 +13,7 @@ use Rattle.checker.specs.Checked.{Checked}
 
 -- ---- algebra: a reduced sum or product has the sum or product of the values
 abbrev pub SumOfValues : Type 0
-SumOfValues = (k a : ℕ) (p q : Poly) → value k a (sum k p q) ≡ (value k a p + value k a q) % 2 ^ k
+SumOfValues = (k a : ℕ) (p q : Poly) → value k a (reduce k (p ++ q)) ≡ (value k a p + value k a q) % 2 ^ k
 
 abbrev pub ProductOfValues : Type 0
 ProductOfValues = (k a : ℕ) (p q : Poly) → value k a (product k p q) ≡ (value k a p * value k a q) % 2 ^ k
@@ -68,15 +64,9 @@ abbrev pub CheckedIsSound : Type 0
 CheckedIsSound = (text : Bytes) (pool scratch : List ℕ) (a : code.Answer) (p q : List ℕ) → Checked text pool scratch a p q → a .verdict ≡ ACCEPTED
     → Sound (statements text) (ringIn (statements text))
 
--- ---- spelling: s is a whole field, and p is what it means at k
-pub record ReadsAs (k : ℕ) (s : Bytes) (p : Poly) : Type 0 where
-  pub field : Written
-  pub reads : wholeField s ≡ got field []
-  pub means : reduced k field ≡ p
-
--- reading a spelling gives back the polynomial that it came from
+-- ---- spelling: reading it as a whole field gives back the polynomial that it came from
 abbrev pub ReadBack : Type 0
-ReadBack = (k : ℕ) (p : Poly) → Reduced k (2 ^ variables) p → ReadsAs k (spell k p) p
+ReadBack = (k : ℕ) (p : Poly) → Reduced k (2 ^ variables) p → (f : Written) × (wholeField (spell k p) ≡ got f []) × (reduced k f ≡ p)
 
 -- the spelling of a field, read and spelled again, is the same
 abbrev pub SpelledTwice : Type 0

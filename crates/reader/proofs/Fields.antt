@@ -9,11 +9,11 @@ use native.Mathlib.Numerals.{add-one}
 use native.Mathlib.Omega.{arith}
 use lib.ListN.{length, take, drop, getD, length-drop}
 use lib.Seq.{drop-cons, drop-drop}
-use Rattle.paper.specs.Grammar.{Bytes, bytes, Read, got, stuck, Reader, next, give, literal, end, each, decimal, polynomial, tab, number, field, pair, kinds, beginsAlike, oneOf, stopShort, statement, Kind as LineKind}
+use Rattle.paper.specs.Grammar.{Bytes, bytes, Read, got, stuck, Reader, next, give, literal, end, each, decimal, polynomial, tab, number, field, pair, kinds, beginsAlike, oneOf, statement}
 use Rattle.paper.specs.Statement.{Written, Pair, Statement, ring, input, goal, lin, del, ext}
 use Rattle.paper.proofs.Reading.{next-assoc, parted, Takes, literal-inside, takes-decimal, takes-polynomial, takes-pair, each-parts, each-more}
 use Rattle.reader.specs.Places.{Got}
-use Rattle.reader.specs.Lines.{headed, morePairs, rings, inputs, goals, lins, dels, exts, kindOf}
+use Rattle.reader.specs.Lines.{LineKind, headed, morePairs, rings, inputs, goals, lins, dels, exts, kindOf}
 use Rattle.reader.specs.declared.line.Kind.the-variants.{Ring, Input, Goal, Lin, Del, Ext}
 
 -- ---- places of readings
@@ -180,7 +180,7 @@ module _ (s : Bytes) (st : Statement) (r : Bytes) where
   pub input-fields : headed inputs s ≡ got st r → (kindOf st ≡ Input) × FieldsAt s r st
   unfolding bytes
   input-fields e =
-      let i = parted (number (drop 2 s)) _ (behind-word (bytes "in") s (inputs .fields) e) in
+      let i = parted (number (drop 2 s)) _ (behind-word (bytes "in") s (inputs .1) e) in
       let n = numbered s 2 (i .value) (i .rest) (i .first) in
       let p = parted (field (i .rest)) (λ p. give (input (i .value) p)) (i .second) in
       let q : input (i .value) (p .value) ≡ st = (let w = p .second in cc) in
@@ -191,7 +191,7 @@ module _ (s : Bytes) (st : Statement) (r : Bytes) where
   pub ext-fields : headed exts s ≡ got st r → (kindOf st ≡ Ext) × FieldsAt s r st
   unfolding bytes
   ext-fields e =
-      let i = parted (number (drop 3 s)) _ (behind-word (bytes "ext") s (exts .fields) e) in
+      let i = parted (number (drop 3 s)) _ (behind-word (bytes "ext") s (exts .1) e) in
       let n = numbered s 3 (i .value) (i .rest) (i .first) in
       let v = parted (number (i .rest)) _ (i .second) in
       let m = numbered s (n .0) (v .value) (v .rest) (ap number (sym (n .3)) ∙ v .first) in
@@ -205,7 +205,7 @@ module _ (s : Bytes) (st : Statement) (r : Bytes) where
   pub lin-fields : headed lins s ≡ got st r → (kindOf st ≡ Lin) × FieldsAt s r st
   unfolding bytes
   lin-fields e =
-      let i = parted (number (drop 3 s)) _ (behind-word (bytes "lin") s (lins .fields) e) in
+      let i = parted (number (drop 3 s)) _ (behind-word (bytes "lin") s (lins .1) e) in
       let n = numbered s 3 (i .value) (i .rest) (i .first) in
       let p = parted (field (i .rest)) _ (i .second) in
       let t = tabbed-field s (n .0) (ap field (sym (n .3)) ∙ p .first) in
@@ -238,10 +238,10 @@ module _ (s : Bytes) (st : Statement) (r : Bytes) where
 -- ---- whole lines
 -- a keyword, the fields of its kind and nothing more
 abbrev pub whole : LineKind → Reader Statement
-whole k s = next (literal (k .keyword) s) (λ _ r. next (k .fields r) (λ st t. next (end t) (λ _. give st)))
+whole k s = next (literal (k .0) s) (λ _ r. next (k .1 r) (λ st t. next (end t) (λ _. give st)))
 
 pub closing : (k : LineKind) (s : Bytes) → whole k s ≡ next (headed k s) (λ st t. next (end t) (λ _. give st))
-closing k s = sym (next-assoc (literal (k .keyword) s) (λ _. k .fields) (λ st t. next (end t) (λ _. give st)))
+closing k s = sym (next-assoc (literal (k .0) s) (λ _. k .1) (λ st t. next (end t) (λ _. give st)))
 
 end-empty : (t : Bytes) (u : Unit {0}) (r : Bytes) → end t ≡ got u r → t ≡ []
 unfolding end
@@ -257,7 +257,7 @@ whole-headed k s st r e =
 
 one-or-other : (k : LineKind) (ks : List LineKind) (s : Bytes) (x : Read Statement) → oneOf (k ∷ ks) s ≡ x → (whole k s ≡ x) ⊎ (oneOf ks s ≡ x)
 unfolding oneOf
-one-or-other k ks s x e = go (beginsAlike (k .keyword) s) e
+one-or-other k ks s x e = go (beginsAlike (k .0) s) e
   where
     go : (b : Bool) → cond b (whole k s) (oneOf ks s) ≡ x → (whole k s ≡ x) ⊎ (oneOf ks s ≡ x)
     go true e = inl e
@@ -270,8 +270,7 @@ by-kind : (s : Bytes) (st : Statement) (r : Bytes) (k : LineKind) (ks : List Lin
     → oneOf (k ∷ ks) s ≡ got st r → FieldsAt s [] st
 by-kind s st r k ks f g e = ⊎-elim (λ w. f (whole-headed k s st r w)) g (one-or-other k ks s (got st r) e)
 
-short-of : {st : Statement} {r : Bytes} (x : Read Statement) → stopShort x ≡ got st r → ⊥
-unfolding stopShort
+short-of : {st : Statement} {r : Bytes} (x : Read Statement) → next x (λ _ t. stuck t) ≡ got st r → ⊥
 short-of (got y t) e = never e
 short-of (stuck t) e = never e
 

@@ -13,12 +13,12 @@ use Rattle.ground.specs.Lists.{every, any}
 use Rattle.ground.proofs.Tests.{by-cond}
 use Rattle.limits.specs.Limits.{greatestRing, greatestIndex}
 use Rattle.limits.specs.Verdicts.{ACCEPTED, NUMBER, TERMS}
-use Rattle.paper.specs.Grammar.{Bytes, bytes, Read, got, stuck, Reader, next, give, literal, end, decimal, polynomial, tab, number, field, pair, kinds, beginsAlike, oneOf, stopShort, statement, Kind as LineKind}
+use Rattle.paper.specs.Grammar.{Bytes, bytes, Read, got, stuck, Reader, next, give, literal, end, decimal, polynomial, tab, number, field, pair, kinds, beginsAlike, oneOf, statement}
 use Rattle.paper.specs.Statement.{Written, Pair, Statement, ring, input, goal, lin, del, ext, newIndex, namedIndices, fields, within, isRing, isIndex, isVariable, inRange, numbersInRange, tooManyTerms}
 use Rattle.paper.proofs.Reading.{next-assoc}
 use Rattle.reader.specs.Places.{Got, Fails}
 use Rattle.reader.specs.Fields.{always, fewTerms, Scanned, Scans}
-use Rattle.reader.specs.Lines.{pairRanged, pairFew, morePairs, pairs, behind, headed, rings, inputs, goals, lins, dels, exts, kindOf, fewInFields, verdictOf, closedOf, Stands, Halts, LineIs}
+use Rattle.reader.specs.Lines.{LineKind, pairRanged, pairFew, morePairs, pairs, behind, headed, rings, inputs, goals, lins, dels, exts, kindOf, fewInFields, verdictOf, closedOf, Stands, Halts, LineIs}
 use Rattle.reader.specs.declared.field.FieldScan.{FieldScan}
 use Rattle.reader.specs.declared.field.FieldScan.the-variants.{Field, Stuck as Stopped}
 use Rattle.reader.specs.declared.line.Kind.{Kind}
@@ -420,13 +420,13 @@ module _ (s : Bytes) (ended : Bool) (r : LineScan) (h : LineIs s true r) where
   line-ended e = rw e h
 
   pub line-stops : ended ≡ false → {q : ℕ} → r ≡ Stuck q → LineIs s ended r
-  unfolding statement stopShort
+  unfolding statement
   line-stops e {q} d =
       let g : Halts s true q = rw d at h in
-      rw (e, d) (record { reads = ap stopShort (g .reads); inside = g .inside })
+      rw (e, d) (record { reads = ap (λ (x : Read Statement). next x (λ _ t. stuck t)) (g .reads); inside = g .inside })
 
   pub line-unended : ended ≡ false → {k : Kind} {v : ℕ} → r ≡ Line k v → Halts s ended (length s)
-  unfolding statement stopShort
+  unfolding statement
   line-unended e {k} {v} d =
       let g : Stands s true k v = rw d at h in
-      rw e (record { reads = ap stopShort (g .reads) ∙ ap (λ (l : Bytes). stuck l) (sym (drop-length s)); inside = omega arith })
+      rw e (record { reads = ap (λ (x : Read Statement). next x (λ _ t. stuck t)) (g .reads) ∙ ap (λ (l : Bytes). stuck l) (sym (drop-length s)); inside = omega arith })

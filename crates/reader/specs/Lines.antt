@@ -8,8 +8,8 @@ use lib.Dec.{ltb}
 use lib.ListN.{length, drop}
 use Rattle.ground.specs.Lists.{any}
 use Rattle.limits.specs.Verdicts.{ACCEPTED, NUMBER, TERMS}
-use Rattle.paper.specs.Grammar.{Bytes, bytes, got, stuck, Reader, next, _>>=_, _>>_, give, literal, each, tab, number, field, pair, kind, statement, Kind as LineKind}
-use Rattle.paper.specs.Statement.{Pair, Statement, ring, input, goal, lin, del, ext, cases, fields, isIndex, inRange, numbersInRange, tooManyTerms}
+use Rattle.paper.specs.Grammar.{Bytes, bytes, got, stuck, Reader, next, _>>=_, _>>_, give, literal, each, tab, number, field, pair, statement}
+use Rattle.paper.specs.Statement.{Pair, Statement, ring, input, goal, lin, del, ext, fields, isIndex, inRange, numbersInRange, tooManyTerms}
 use Rattle.reader.specs.Fields.{fewTerms}
 use Rattle.reader.specs.declared.field.FieldScan.{FieldScan}
 use Rattle.reader.specs.declared.field.FieldScan.the-variants.{Field, Stuck as Stopped}
@@ -32,35 +32,38 @@ morePairs = each (code "\t") pair
 unfoldable pub pairs : Reader (List Pair)
 pairs = do tab; q ← pair; qs ← morePairs; give (q ∷ qs)
 
--- ---- the kinds of the grammar, one by one
+-- ---- the kinds of the grammar, one by one: a keyword and its fields
+abbrev pub LineKind : Type 0
+LineKind = Bytes × Reader Statement
+
 abbrev pub behind : {A : Type 0} → Bytes → Reader A → Reader A
 behind w read = λ s. next (literal w s) (λ _. read)
 
 -- a keyword and the fields of its kind
 abbrev pub headed : LineKind → Reader Statement
-headed k = behind (k .keyword) (k .fields)
+headed k = behind (k .0) (k .1)
 
 abbrev pub rings : LineKind
-rings = kind "ring" (do k ← number; give (ring k))
+rings = (bytes "ring", do k ← number; give (ring k))
 
 abbrev pub inputs : LineKind
-inputs = kind "in" (do i ← number; p ← field; give (input i p))
+inputs = (bytes "in", do i ← number; p ← field; give (input i p))
 
 abbrev pub goals : LineKind
-goals = kind "goal" (do p ← field; give (goal p))
+goals = (bytes "goal", do p ← field; give (goal p))
 
 abbrev pub lins : LineKind
-lins = kind "lin" (do i ← number; p ← field; tab; q ← pair; qs ← morePairs; give (lin i p (q ∷ qs)))
+lins = (bytes "lin", do i ← number; p ← field; tab; q ← pair; qs ← morePairs; give (lin i p (q ∷ qs)))
 
 abbrev pub dels : LineKind
-dels = kind "del" (do i ← number; give (del i))
+dels = (bytes "del", do i ← number; give (del i))
 
 abbrev pub exts : LineKind
-exts = kind "ext" (do i ← number; v ← number; p ← field; give (ext i v p))
+exts = (bytes "ext", do i ← number; v ← number; p ← field; give (ext i v p))
 
 -- ---- the code's answer
 abbrev pub kindOf : Statement → Kind
-kindOf = cases (λ k. Ring) (λ i p. Input) (λ p. Goal) (λ i p qs. Lin) (λ i. Del) (λ i v p. Ext)
+kindOf st = elim st [ ring k ↦ Ring | input i p ↦ Input | goal p ↦ Goal | lin i p qs ↦ Lin | del i ↦ Del | ext i v p ↦ Ext ]
 
 unfoldable pub fewInFields : Statement → Bool
 fewInFields st = not (any tooManyTerms (fields st))

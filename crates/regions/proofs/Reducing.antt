@@ -16,8 +16,8 @@ use Rattle.words.specs.Parts.{part, Within}
 use Rattle.words.proofs.Parts.{within-trans, within-wider, length-part, put-part, put-within}
 use Rattle.ground.proofs.Tests.{and-left, and-right}
 use Rattle.limits.specs.Limits.{fieldTerms, termWords}
-use Rattle.algebra.specs.Polynomial.{Term, Poly, keep, sumIf, reduce, minusOne, extension}
-use Rattle.algebra.proofs.Values.{sumIf-append}
+use Rattle.algebra.specs.Polynomial.{Term, Poly, sumIf, reduce, extension}
+use Rattle.algebra.proofs.Values.{keep, sumIf-append}
 use Rattle.algebra.proofs.Sums.{reduce-sums}
 use Rattle.words.specs.Words.{number}
 use Rattle.words.proofs.Wrap.{same-negative}
@@ -90,14 +90,14 @@ module _ (line : Bytes) (at base : ℕ) (s y : List ℕ) (f : FieldRun) (g : Goo
 
 -- ---- -v + p
 -- 2 ^ 64 - 1 is -1
-last-first : (k : ℕ) → k ≤ 64 → (m : ℕ) (p : Poly) → reduce k (p ++ (record { set = m; coef = 2 ^ 64 - 1 } ∷ [])) ≡ reduce k (record { set = m; coef = minusOne k } ∷ p)
-last-first k h m p = reduce-sums k (p ++ (record { set = m; coef = 2 ^ 64 - 1 } ∷ [])) (record { set = m; coef = minusOne k } ∷ p) same
+last-first : (k : ℕ) → k ≤ 64 → (m : ℕ) (p : Poly) → reduce k (p ++ (record { set = m; coef = 2 ^ 64 - 1 } ∷ [])) ≡ reduce k (record { set = m; coef = 2 ^ k - 1 } ∷ p)
+last-first k h m p = reduce-sums k (p ++ (record { set = m; coef = 2 ^ 64 - 1 } ∷ [])) (record { set = m; coef = 2 ^ k - 1 } ∷ p) same
   where
-    one : (b : Bool) → Same (2 ^ k) (keep b (2 ^ 64 - 1)) (keep b (minusOne k))
+    one : (b : Bool) → Same (2 ^ k) (keep b (2 ^ 64 - 1)) (keep b (2 ^ k - 1))
     one true = same-negative k h 1 (omega arith) ⊳ same-eq (mul-one (2 ^ k - 1))
     one false = same-refl
 
-    same : (f : ℕ → Bool) → Same (2 ^ k) (sumIf f (p ++ (record { set = m; coef = 2 ^ 64 - 1 } ∷ []))) (keep (f m) (minusOne k) + sumIf f p)
+    same : (f : ℕ → Bool) → Same (2 ^ k) (sumIf f (p ++ (record { set = m; coef = 2 ^ 64 - 1 } ∷ []))) (keep (f m) (2 ^ k - 1) + sumIf f p)
     same f =
         same-eq (sumIf-append f p (record { set = m; coef = 2 ^ 64 - 1 } ∷ []) ∙ omega arith)
         ⊳ same-add {a = keep (f m) (2 ^ 64 - 1)} {c = sumIf f p} (one (f m)) same-refl

@@ -2,7 +2,7 @@
 use mathlib.Core.Path.{_≡_, refl, sym, ap, _∙_}
 use mathlib.Core.Bool.{Bool, true, false, _&&_, not, cond, and-false}
 use mathlib.Core.List.{[], _∷_}
-use Prim.Native.Nat.{ℕ, _-_, _≤_, _<_}
+use Prim.Native.Nat.{ℕ, _≤_, _<_}
 use native.Mathlib.Omega.{arith}
 use lib.Dec.{eqb, leb, ltb}
 use lib.ListN.{length, drop, length-drop, drop-of-length-le}
@@ -13,7 +13,7 @@ use Rattle.limits.specs.Verdicts.{ACCEPTED, SHORT, FORM, NUMBER, TERMS, FULL}
 use Rattle.paper.specs.Grammar.{Bytes, Read, got, stuck, next, end, polynomial}
 use Rattle.paper.specs.Statement.{Written, isRing, inRange, tooManyTerms, reduced}
 use Rattle.paper.specs.Rules.{first}
-use Rattle.paper.specs.Spelling.{Spelled, Request, refuse, spell, spellingOf, spellingRules, spellRequest, spellRead, wholeField}
+use Rattle.paper.specs.Spelling.{Spelled, refuse, spell, spellingRules, spellRead, wholeField}
 use Rattle.paper.proofs.ReadBack.{whole-end}
 use Rattle.reader.specs.Places.{Fails}
 use Rattle.reader.specs.Fields.{fewTerms, Scanned}
@@ -32,21 +32,18 @@ whole-some s [] p e h = absurd (let z : 0 < 0 = h in omega arith)
 whole-some s (b ∷ t) p e h = ap (λ (r : Read Written). next r (λ p s. next (end s) (λ _ r. got p r))) e
 
 -- ---- the rules
-abbrev request : ℕ → ℕ → Written → Request
-request k room p = record { k = k; room = room; poly = p }
-
 module _ (k room : ℕ) (p : Written) where
-  request-number : (isRing k && inRange p) ≡ false → spellRequest (request k room p) ≡ refuse NUMBER
-  unfolding spellRequest spellingRules first
+  request-number : (isRing k && inRange p) ≡ false → spellRead k room (got p []) ≡ refuse NUMBER
+  unfolding spellRead spellingRules first
   request-number e = rw e
 
   module _ (e : (isRing k && inRange p) ≡ true) where
-    request-terms : tooManyTerms p ≡ true → spellRequest (request k room p) ≡ refuse TERMS
-    unfolding spellRequest spellingRules first
+    request-terms : tooManyTerms p ≡ true → spellRead k room (got p []) ≡ refuse TERMS
+    unfolding spellRead spellingRules first
     request-terms f = rw (e, f)
 
-    request-fitted : tooManyTerms p ≡ false → spellRequest (request k room p) ≡ fitted (spell k (reduced k p)) room
-    unfolding spellRequest spellingRules first spellingOf fitted
+    request-fitted : tooManyTerms p ≡ false → spellRead k room (got p []) ≡ fitted (spell k (reduced k p)) room
+    unfolding spellRead spellingRules first fitted
     request-fitted f = rw (e, f) (go (ltb room (length (spell k (reduced k p)))))
       where
         done : Spelled
@@ -88,7 +85,7 @@ module _ (field : Bytes) (k : ℕ) where
       ended : polynomial field ≡ got (s .value) []
       ended = s .taken .reads ∙ ap (λ (r : Bytes). got (s .value) r) (drop-of-length-le field {i = e} (omega arith))
 
-      whole : (room : ℕ) → spellRead k room (wholeField field) ≡ spellRequest (request k room (s .value))
+      whole : (room : ℕ) → spellRead k room (wholeField field) ≡ spellRead k room (got (s .value) [])
       unfolding spellRead
       whole room = ap (spellRead k room) (whole-end field (s .value) ended)
 
@@ -146,15 +143,15 @@ accepted-fitted field k room a =
 
 -- no verdict of these is SHORT
 pub not-short : (k room : ℕ) (r : Read Written) → eqb (spellRead k room r .verdict) SHORT ≡ false
-unfolding spellRead spellRequest spellingRules first
+unfolding spellRead spellingRules first
 not-short k room (stuck s) = refl
 not-short k room (got p s) =
     by-cond (λ (v : ℕ). P v) (not (isRing k && inRange p)) (λ _. refl)
     (λ _. by-cond (λ (v : ℕ). P v) (tooManyTerms p) (λ _. refl)
-    (λ _. by-cond (λ (v : ℕ). P v) (ltb room (length (spellingOf (request k room p)))) (λ _. refl) (λ _. refl)))
+    (λ _. by-cond (λ (v : ℕ). P v) (ltb room (length (spell k (reduced k p)))) (λ _. refl) (λ _. refl)))
   where
     done : Spelled
-    done = record { verdict = ACCEPTED; spelling = spellingOf (request k room p) }
+    done = record { verdict = ACCEPTED; spelling = spell k (reduced k p) }
 
     P : ℕ → Type 0
     P v = eqb (cond (eqb v ACCEPTED) done (refuse v) .verdict) SHORT ≡ false

@@ -8,7 +8,7 @@ use lib.ListN.{length, drop, getD, length-append}
 use Rattle.ground.specs.Lists.{gather}
 use Rattle.ground.proofs.Tests.{by-cond}
 use Rattle.limits.specs.Limits.{variables, setWords}
-use Rattle.algebra.specs.Sets.{members}
+use Rattle.algebra.specs.Polynomial.{members}
 use Rattle.words.specs.Words.{number, Lowest}
 use Rattle.words.proofs.Laws.{Words, members-lowest, members-none, members-drop}
 use Rattle.paper.specs.Grammar.{Bytes}

@@ -13,8 +13,7 @@ use Rattle.ground.specs.Lists.{gather, total}
 use Rattle.words.specs.Parts.{part}
 use Rattle.ground.proofs.Tests.{by-cond}
 use Rattle.limits.specs.Limits.{setWords, termWords, variables}
-use Rattle.algebra.specs.Sets.{members}
-use Rattle.algebra.specs.Polynomial.{Term, Poly}
+use Rattle.algebra.specs.Polynomial.{members, Term, Poly}
 use Rattle.words.specs.Words.{number}
 use Rattle.terms.specs.Terms.{termOf, decode}
 use Rattle.terms.specs.Order.{none}

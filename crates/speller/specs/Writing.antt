@@ -7,8 +7,7 @@ use Prim.Native.Char.{code}
 use lib.ListN.{length, take, drop, getD}
 use Rattle.ground.specs.Lists.{total}
 use Rattle.limits.specs.Limits.{variables}
-use Rattle.algebra.specs.Sets.{members}
-use Rattle.algebra.specs.Polynomial.{Term, Poly}
+use Rattle.algebra.specs.Polynomial.{members, Term, Poly}
 use Rattle.terms.specs.Order.{none}
 use Rattle.paper.specs.Grammar.{Bytes}
 use Rattle.paper.specs.Spelling.{spellNumber, spellTerm}

@@ -5,7 +5,7 @@ ghost use lib.Dec.{leb};
 ghost use lib.ListN.{length};
 ghost use Rattle.ground.specs.Lists.{gather};
 ghost use Rattle.limits.specs.Limits.{variables, termWords, fieldTerms};
-ghost use Rattle.algebra.specs.Sets.{members};
+ghost use Rattle.algebra.specs.Polynomial.{members};
 ghost use Rattle.words.specs.Words.{number, Lowest};
 ghost use Rattle.terms.specs.Terms.{termOf, decode};
 ghost use Rattle.paper.specs.Spelling.{spellNumber, spellCoefficient, spellTerm, spell};

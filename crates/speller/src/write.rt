@@ -3,7 +3,7 @@ ghost use Prim.Native.Nat.{_+_, _*_, _^_, _≤_, _<_};
 ghost use lib.ListN.{length, drop};
 ghost use Rattle.ground.specs.Lists.{gather};
 ghost use Rattle.limits.specs.Limits.{variables, termWords};
-ghost use Rattle.algebra.specs.Sets.{members};
+ghost use Rattle.algebra.specs.Polynomial.{members};
 ghost use Rattle.words.specs.Words.{number};
 ghost use Rattle.terms.specs.Terms.{termOf, decode};
 ghost use Rattle.paper.specs.Spelling.{spellNumber, spellCoefficient, spellTerm, spell};

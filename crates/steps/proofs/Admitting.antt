@@ -10,7 +10,6 @@ use Rattle.limits.specs.Verdicts.{ORDER, TAKEN}
 use Rattle.paper.specs.Rules.{first, stored, rules}
 use Rattle.paper.specs.Grammar.{Bytes}
 use Rattle.paper.specs.Statement.{Statement}
-use Rattle.paper.proofs.Steps.{caseOf}
 use Rattle.table.specs.declared.Table.{Table}
 use Rattle.table.specs.Table.{firsts, entryAt}
 use Rattle.table.specs.Steps.{Absent, FirstAt}
@@ -43,7 +42,7 @@ module _ (indices starts counts pool : List ℕ) (n x place phase : ℕ) (z : ph
 
 -- ---- what follows for the line
 pub unadmitted : {line : Bytes} {capacity : ℕ} {st : Statement} {s : State} {pool scratch : List ℕ} {r : Step} (place : ℕ) (taken : Bool) (later v : ℕ)
-    → Said line st → first rules (caseOf capacity (stateOf s pool scratch) st) ≡ admits place (s .phase) taken later → v ≡ admits place (s .phase) taken 0
+    → Said line st → first (rules capacity (stateOf s pool scratch) st) ≡ admits place (s .phase) taken later → v ≡ admits place (s .phase) taken 0
     → (v ≡ 0 → ⊥) → (r .verdict ≡ v) × (r .state ≡ s) → Does capacity line s pool scratch r pool scratch
 unadmitted {s = s} place taken later v h e q n r =
     does h (stepped-refused v (omega (arith, n)) (e ∙ two-stop (not (eqb place (s .phase))) taken ORDER TAKEN later (λ z. n (q ∙ z)) ∙ sym q) r refl)

@@ -9,7 +9,7 @@ use lib.ListN.{length}
 use Rattle.ground.specs.Lists.{any, total}
 use Rattle.algebra.specs.Polynomial.{Poly, vars, equal, extension, allVars}
 use Rattle.paper.specs.Statement.{Written, Pair, ring, input, goal, lin, del, ext, fields, reduced}
-use Rattle.paper.specs.Rules.{modulo, bits, inputs, steps, State, find, remove, defines, entries, makesSeen, productCount, holdsGoal, after}
+use Rattle.paper.specs.Rules.{modulo, bits, inputs, steps, State, find, remove, entries, makesSeen, productCount, holdsGoal, after}
 use Rattle.steps.specs.Parts.{only}
 
 module _ (s : State) where
@@ -18,7 +18,7 @@ module _ (s : State) where
 
   pub after-ring : (j : ℕ) → after s (ring j)
       ≡ record { phase = inputs; ring = modulo j; store = s .store; seen = s .seen; goal = s .goal; reached = s .reached; products = s .products }
-  unfolding after entries makesSeen defines allVars fields productCount holdsGoal any
+  unfolding after entries makesSeen allVars fields productCount holdsGoal any
   after-ring j = λ i. record {
     phase = inputs;
     ring = modulo j;
@@ -31,7 +31,7 @@ module _ (s : State) where
 
   pub after-del : (x : ℕ) → after s (del x)
       ≡ record { phase = s .phase; ring = s .ring; store = remove (s .store) x; seen = s .seen; goal = s .goal; reached = s .reached; products = s .products }
-  unfolding after entries makesSeen defines allVars fields productCount holdsGoal any
+  unfolding after entries makesSeen allVars fields productCount holdsGoal any
   after-del x = λ i. record {
     phase = s .phase;
     ring = s .ring;
@@ -56,7 +56,7 @@ module _ (s : State) where
         reached = holdsGoal (reduced k w) (s .store);
         products = s .products;
       }
-  unfolding after entries makesSeen defines allVars fields productCount
+  unfolding after entries makesSeen allVars fields productCount
   after-goal w = λ i. record {
     phase = steps;
     ring = s .ring;
@@ -77,7 +77,7 @@ module _ (s : State) where
         reached = false;
         products = s .products;
       }
-  unfolding after entries makesSeen defines allVars fields productCount
+  unfolding after entries makesSeen allVars fields productCount
   after-input x w = λ i. record {
     phase = s .phase;
     ring = s .ring;
@@ -103,7 +103,7 @@ module _ (s : State) where
         reached = s .reached || equal (extension k v (reduced k w)) (s .goal);
         products = s .products + length (reduced k w) * length (reduced k w);
       }
-  unfolding after entries makesSeen defines allVars fields productCount
+  unfolding after entries makesSeen allVars fields productCount
   after-ext x v w = λ i. record {
     phase = s .phase;
     ring = s .ring;
@@ -124,7 +124,7 @@ module _ (s : State) where
         reached = s .reached || equal (reduced k w) (s .goal);
         products = s .products + total (λ q. length (reduced k (q .factor)) * length (find (s .store) (q .index))) qs;
       }
-  unfolding after entries makesSeen defines allVars fields productCount
+  unfolding after entries makesSeen allVars fields productCount
   after-lin x w qs = λ i. record {
     phase = s .phase;
     ring = s .ring;

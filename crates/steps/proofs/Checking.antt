@@ -13,8 +13,7 @@ use Rattle.words.specs.Parts.{part, Within}
 use Rattle.words.proofs.Parts.{drop-more}
 use Rattle.limits.specs.Limits.{greatestRing, fieldTerms, lineProducts}
 use Rattle.limits.specs.Verdicts.{MISSING, SEEN, PRODUCTS, MISMATCH, NOTBIT}
-use Rattle.algebra.specs.Sets.{has}
-use Rattle.algebra.specs.Polynomial.{vars, equal, reduce, product, extension}
+use Rattle.algebra.specs.Polynomial.{has, vars, equal, reduce, product, extension}
 use Rattle.algebra.proofs.Unions.{or-assoc}
 use Rattle.words.specs.Words.{number}
 use Rattle.terms.specs.Terms.{decode, Leaves}

@@ -12,8 +12,7 @@ use Rattle.ground.specs.Lists.{every}
 use Rattle.words.proofs.Parts.{drop-more}
 use Rattle.limits.specs.Limits.{lineProducts}
 use Rattle.limits.specs.Verdicts.{MISSING, SEEN, PRODUCTS, MISMATCH, NOTBIT}
-use Rattle.algebra.specs.Sets.{has}
-use Rattle.algebra.specs.Polynomial.{Poly, vars, equal, reduce, product, extension, allVars}
+use Rattle.algebra.specs.Polynomial.{has, Poly, vars, equal, reduce, product, extension, allVars}
 use Rattle.algebra.proofs.Unions.{or-assoc}
 use Rattle.words.specs.Words.{number}
 use Rattle.terms.specs.Terms.{decode}
@@ -21,7 +20,6 @@ use Rattle.terms.proofs.Decode.{decode-length}
 use Rattle.paper.specs.Rules.{first, modulo, steps, stored, find, rules, combination}
 use Rattle.paper.specs.Grammar.{Bytes, decimal}
 use Rattle.paper.specs.Statement.{Written, Pair, lin, ext, reduced}
-use Rattle.paper.proofs.Steps.{caseOf}
 use Rattle.reader.specs.Places.{Got}
 use Rattle.reader.specs.declared.line.Kind.the-variants.{Lin, Ext}
 use Rattle.fields.specs.declared.FieldRun.{FieldRun}
@@ -58,7 +56,7 @@ module _ {line : Bytes} {capacity : ℕ} {s : State} {pool scratch : List ℕ} {
   module _ {u d : ℕ} {scratch₁ scratch₂ : List ℕ} {f : FieldRun} {c : Checked} (room : Room capacity s pool scratch) (z : v ≡ 0) (n : Got decimal line (e + 1) u d)
       (a : ReducedAt line (d + 1) (s .ring) statedAt scratch scratch₁ f)
       (m : Extends (s .ring) u (decode (f .terms) (drop statedAt scratch₁)) (number (s .seen)) scratch₁ scratch₂ c) where
-    ext-rows : first rules (caseOf capacity (stateOf s pool scratch) (ext x u (a .value))) ≡ extLater capacity s pool x u (decode (f .terms) (drop statedAt scratch₁))
+    ext-rows : first (rules capacity (stateOf s pool scratch) (ext x u (a .value))) ≡ extLater capacity s pool x u (decode (f .terms) (drop statedAt scratch₁))
     ext-rows =
         let t = ext-read h g n (a .taken) in
         first-ext capacity (stateOf s pool scratch) x u (a .value) (t .ranged) (t .short)
@@ -138,7 +136,7 @@ module _ {line : Bytes} {capacity : ℕ} {s : State} {pool scratch : List ℕ} {
   module _ {scratch₁ scratch₂ : List ℕ} {f : FieldRun} {c : Checked} {qs : List Pair} (room : Room capacity s pool scratch) (z : v ≡ 0)
       (a : ReducedAt line (e + 1) (s .ring) statedAt scratch scratch₁ f) (t : Said line (lin x (a .value) qs))
       (m : Sums (s .ring) (storeOf (s .table) pool) qs (f .terms) (number (s .seen)) scratch₁ scratch₂ c) where
-    lin-rows : first rules (caseOf capacity (stateOf s pool scratch) (lin x (a .value) qs)) ≡ linLater capacity s pool x qs (decode (f .terms) (drop statedAt scratch₁))
+    lin-rows : first (rules capacity (stateOf s pool scratch) (lin x (a .value) qs)) ≡ linLater capacity s pool x qs (decode (f .terms) (drop statedAt scratch₁))
     unfolding productsOf
     lin-rows =
         first-lin capacity (stateOf s pool scratch) x (a .value) qs (t .ranged) (t .short)

@@ -11,63 +11,61 @@ use lib.ListN.{length}
 use Rattle.ground.specs.Lists.{every, any, total}
 use Rattle.limits.specs.Limits.{lineProducts}
 use Rattle.limits.specs.Verdicts.{ACCEPTED, ORDER, TAKEN, MISSING, SEEN, PRODUCTS, MISMATCH, NOTBIT, FULL}
-use Rattle.algebra.specs.Sets.{has}
-use Rattle.algebra.specs.Polynomial.{vars, equal, reduce, product, extension}
-use Rattle.paper.specs.Rules.{first, opening, inputs, steps, State, stored, find, Case, ringOf, rules, place, entries, productCount, combination, clashes, differs, noBit, overfull}
-use Rattle.paper.specs.Statement.{Written, Pair, ring, input, goal, lin, del, ext, newIndex, namedIndices, fields, numbersInRange, tooManyTerms, reduced}
-use Rattle.paper.proofs.Steps.{caseOf}
+use Rattle.algebra.specs.Polynomial.{has, vars, equal, reduce, product, extension}
+use Rattle.paper.specs.Rules.{first, bits, opening, inputs, steps, State, stored, find, rules, place, entries, productCount, combination, overfull}
+use Rattle.paper.specs.Statement.{Written, Pair, Statement, onLin, onExt, ring, input, goal, lin, del, ext, newIndex, namedIndices, fields, numbersInRange, tooManyTerms, reduced}
 use Rattle.steps.specs.Parts.{admits, sums, extends, fits, only}
-
--- of a statement that neither NUMBER nor TERMS refuses
-first-said : (c : Case) → numbersInRange (c .statement) ≡ true → any tooManyTerms (fields (c .statement)) ≡ false
-    → first rules c ≡ cond (not (eqb (place (c .statement)) (c .state .phase))) ORDER
-    (cond (any (stored (c .state .store)) (newIndex (c .statement))) TAKEN
-    (cond (not (every (stored (c .state .store)) (namedIndices (c .statement)))) MISSING
-    (cond (clashes (ringOf c) (c .state .seen) (c .statement)) SEEN
-    (cond (ltb lineProducts (productCount (ringOf c) (find (c .state .store)) (c .statement))) PRODUCTS
-    (cond (differs (ringOf c) (find (c .state .store)) (c .statement)) MISMATCH
-    (cond (noBit (ringOf c) (c .statement)) NOTBIT
-    (cond (overfull (c .capacity) (c .state .store) (entries (ringOf c) (c .statement))) FULL ACCEPTED)))))))
-unfolding first rules
-first-said c r t = rw (r, t)
 
 module _ (capacity : ℕ) (s : State) where
   abbrev k : ℕ
-  k = ringOf (caseOf capacity s (ring 0))
+  k = bits (s .ring)
+
+  -- of a statement that neither NUMBER nor TERMS refuses
+  first-said : (st : Statement) → numbersInRange st ≡ true → any tooManyTerms (fields st) ≡ false
+      → first (rules capacity s st) ≡ cond (not (eqb (place st) (s .phase))) ORDER
+      (cond (any (stored (s .store)) (newIndex st)) TAKEN
+      (cond (not (every (stored (s .store)) (namedIndices st))) MISSING
+      (cond (onExt false (λ i v p. has (bitOr (vars (reduced k p)) (s .seen)) v) st) SEEN
+      (cond (ltb lineProducts (productCount k (find (s .store)) st)) PRODUCTS
+      (cond (onLin false (λ i p qs. not (equal (reduced k p) (reduce k (combination k (find (s .store)) qs)))) st) MISMATCH
+      (cond (onExt false (λ i v p. not (equal (product k (reduced k p) (reduced k p)) (reduced k p))) st) NOTBIT
+      (cond (overfull capacity (s .store) (entries k st)) FULL ACCEPTED)))))))
+  unfolding first rules
+  first-said st r t = rw (r, t)
 
   pub first-ring : (j : ℕ) → numbersInRange (ring j) ≡ true → any tooManyTerms (fields (ring j)) ≡ false
-      → first rules (caseOf capacity s (ring j)) ≡ cond (not (eqb opening (s .phase))) ORDER ACCEPTED
-  unfolding place newIndex namedIndices any every clashes productCount differs noBit entries overfull
-  first-ring j r t = first-said (caseOf capacity s (ring j)) r t
+      → first (rules capacity s (ring j)) ≡ cond (not (eqb opening (s .phase))) ORDER ACCEPTED
+  unfolding place newIndex namedIndices any every productCount entries overfull
+  first-ring j r t = first-said (ring j) r t
 
   pub first-goal : (p : Written) → numbersInRange (goal p) ≡ true → any tooManyTerms (fields (goal p)) ≡ false
-      → first rules (caseOf capacity s (goal p)) ≡ cond (not (eqb inputs (s .phase))) ORDER ACCEPTED
-  unfolding place newIndex namedIndices any every clashes productCount differs noBit entries overfull
-  first-goal p r t = first-said (caseOf capacity s (goal p)) r t
+      → first (rules capacity s (goal p)) ≡ cond (not (eqb inputs (s .phase))) ORDER ACCEPTED
+  unfolding place newIndex namedIndices any every productCount entries overfull
+  first-goal p r t = first-said (goal p) r t
 
   pub first-del : (i : ℕ) → numbersInRange (del i) ≡ true → any tooManyTerms (fields (del i)) ≡ false
-      → first rules (caseOf capacity s (del i)) ≡ cond (not (eqb steps (s .phase))) ORDER (cond (not (stored (s .store) i)) MISSING ACCEPTED)
-  unfolding place newIndex namedIndices any every clashes productCount differs noBit entries overfull
+      → first (rules capacity s (del i)) ≡ cond (not (eqb steps (s .phase))) ORDER (cond (not (stored (s .store) i)) MISSING ACCEPTED)
+  unfolding place newIndex namedIndices any every productCount entries overfull
   first-del i r t =
-      first-said (caseOf capacity s (del i)) r t
+      first-said (del i) r t
       ∙ ap (λ (b : Bool). cond (not (eqb steps (s .phase))) ORDER (cond (not b) MISSING ACCEPTED)) (and-true (stored (s .store) i))
 
   pub first-input : (i : ℕ) (p : Written) → numbersInRange (input i p) ≡ true → any tooManyTerms (fields (input i p)) ≡ false
-      → first rules (caseOf capacity s (input i p)) ≡ admits inputs (s .phase) (stored (s .store) i) (fits capacity (s .store) (only i (reduced k p)))
-  unfolding place newIndex namedIndices any every clashes productCount differs noBit entries
+      → first (rules capacity s (input i p)) ≡ admits inputs (s .phase) (stored (s .store) i) (fits capacity (s .store) (only i (reduced k p)))
+  unfolding place newIndex namedIndices any every productCount entries
   first-input i p r t =
-      first-said (caseOf capacity s (input i p)) r t
+      first-said (input i p) r t
       ∙ ap (λ (b : Bool). admits inputs (s .phase) b (fits capacity (s .store) (only i (reduced k p)))) (or-false (stored (s .store) i))
 
   pub first-ext : (i v : ℕ) (p : Written) → numbersInRange (ext i v p) ≡ true → any tooManyTerms (fields (ext i v p)) ≡ false
-      → first rules (caseOf capacity s (ext i v p))
+      → first (rules capacity s (ext i v p))
       ≡ admits steps (s .phase) (stored (s .store) i)
       (extends (has (bitOr (vars (reduced k p)) (s .seen)) v) (length (reduced k p) * length (reduced k p))
       (equal (product k (reduced k p) (reduced k p)) (reduced k p))
       (fits capacity (s .store) (only i (extension k v (reduced k p)))))
-  unfolding place newIndex namedIndices any every clashes productCount differs noBit entries
+  unfolding place newIndex namedIndices any every productCount entries
   first-ext i v p r t =
-      first-said (caseOf capacity s (ext i v p)) r t
+      first-said (ext i v p) r t
       ∙ ap₂ (λ (b : Bool) (n : ℕ). admits steps (s .phase) b
       (extends (has (bitOr (vars (reduced k p)) (s .seen)) v) n
       (equal (product k (reduced k p) (reduced k p)) (reduced k p))
@@ -75,15 +73,15 @@ module _ (capacity : ℕ) (s : State) where
       (or-false (stored (s .store) i)) (zero-add (length (reduced k p) * length (reduced k p)))
 
   pub first-lin : (i : ℕ) (p : Written) (qs : List Pair) → numbersInRange (lin i p qs) ≡ true → any tooManyTerms (fields (lin i p qs)) ≡ false
-      → first rules (caseOf capacity s (lin i p qs))
+      → first (rules capacity s (lin i p qs))
       ≡ admits steps (s .phase) (stored (s .store) i)
       (sums (every (stored (s .store)) (map (λ q. q .index) qs))
       (total (λ q. length (reduced k (q .factor)) * length (find (s .store) (q .index))) qs)
       (equal (reduced k p) (reduce k (combination k (find (s .store)) qs)))
       (fits capacity (s .store) (only i (reduced k p))))
-  unfolding place newIndex namedIndices any clashes productCount differs noBit entries
+  unfolding place newIndex namedIndices any productCount entries
   first-lin i p qs r t =
-      first-said (caseOf capacity s (lin i p qs)) r t
+      first-said (lin i p qs) r t
       ∙ ap₂ (λ (b : Bool) (n : ℕ). admits steps (s .phase) b
       (sums (every (stored (s .store)) (map (λ q. q .index) qs)) n
       (equal (reduced k p) (reduce k (combination k (find (s .store)) qs)))

@@ -17,7 +17,6 @@ use Rattle.paper.specs.Grammar.{Bytes}
 use Rattle.paper.specs.Statement.{Statement, ring, del}
 use Rattle.paper.specs.Rules as paper
 use Rattle.paper.proofs.Store.{Distinct, distinct-append, distinct-remove}
-use Rattle.paper.proofs.Steps.{caseOf}
 use Rattle.fields.proofs.Taking.{same-value}
 use Rattle.table.specs.declared.Table.{Table}
 use Rattle.table.specs.Table.{storeOf}
@@ -68,7 +67,7 @@ does {capacity = capacity} {s = s} {pool} {scratch} {r} {pool′} {scratch′} h
     subst (λ (x : Statement). Stepped capacity x s pool scratch r pool′ scratch′) (same-value (h .reads) e) p
 
 pub stepped-refused : {capacity : ℕ} {st : Statement} {s : State} {pool scratch : List ℕ} {r : Step} {scratch′ : List ℕ} (v : ℕ) → 0 < v
-    → first rules (caseOf capacity (stateOf s pool scratch) st) ≡ v → (r .verdict ≡ v) × (r .state ≡ s) → length scratch′ ≡ length scratch
+    → first (rules capacity (stateOf s pool scratch) st) ≡ v → (r .verdict ≡ v) × (r .state ≡ s) → length scratch′ ≡ length scratch
     → Stepped capacity st s pool scratch r pool scratch′
 stepped-refused {r = r} v l e h n =
     let q : r .verdict ≡ v = h .0 in
@@ -202,7 +201,7 @@ goal-same s pool a b e = ap (λ (w : List ℕ). record {
 
 module _ {line : Bytes} {capacity : ℕ} {st : Statement} {s : State} {pool scratch : List ℕ} {i : ℕ} {p : Poly} {g : Gain} (h : Said line st) (room : Room capacity s pool scratch) where
   pub keeps : {r : Step} {pool′ scratch′ : List ℕ} → drop goalAt scratch′ ≡ drop goalAt scratch → length scratch′ ≡ length scratch
-      → first rules (caseOf capacity (stateOf s pool scratch) st) ≡ fits capacity (storeOf (s .table) pool) (only i p)
+      → first (rules capacity (stateOf s pool scratch) st) ≡ fits capacity (storeOf (s .table) pool) (only i p)
       → after (stateOf s pool scratch) st ≡ gained (stateOf s pool scratch) i p g
       → stored (storeOf (s .table) pool) i ≡ false → g .products ≤ s .products + lineProducts
       → Kept capacity i p g s pool scratch′ r pool′ → Does capacity line s pool scratch r pool′ scratch′

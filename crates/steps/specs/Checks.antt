@@ -6,8 +6,7 @@ use lib.Bits.{bitOr}
 use lib.ListN.{length, drop}
 use Rattle.ground.specs.Lists.{every}
 use Rattle.limits.specs.Limits.{fieldTerms, lineProducts}
-use Rattle.algebra.specs.Sets.{has}
-use Rattle.algebra.specs.Polynomial.{Poly, vars, equal, reduce, product, extension, allVars}
+use Rattle.algebra.specs.Polynomial.{has, Poly, vars, equal, reduce, product, extension, allVars}
 use Rattle.words.specs.Words.{number}
 use Rattle.terms.specs.Terms.{decode}
 use Rattle.paper.specs.Statement.{Pair, reduced}

@@ -29,7 +29,7 @@ pub record Room (capacity : ℕ) (s : State) (pool scratch : List ℕ) : Type 0 
   pub early : s .lines ≤ textBytes
 
 pub record Stepped (capacity : ℕ) (st : Statement) (s : State) (pool scratch : List ℕ) (r : Step) (pool′ scratch′ : List ℕ) : Type 0 where
-  pub verdict : first rules (record { capacity = capacity; state = stateOf s pool scratch; statement = st }) ≡ r .verdict
+  pub verdict : first (rules capacity (stateOf s pool scratch) st) ≡ r .verdict
   pub next : r .verdict ≡ 0 → stateOf (r .state) pool′ scratch′ ≡ after (stateOf s pool scratch) st
   pub ready : r .verdict ≡ 0 → Ready capacity (s .lines + 1) (r .state) pool′ scratch′
   pub lines : r .state .lines ≡ s .lines

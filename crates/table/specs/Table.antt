@@ -8,7 +8,7 @@ use Rattle.algebra.specs.Polynomial.{Poly}
 use Rattle.words.specs.Words.{number}
 use Rattle.terms.specs.Terms.{decode}
 use Rattle.paper.specs.Rules as paper
-use Rattle.paper.specs.Rules.{modulo, Entry, Store}
+use Rattle.paper.specs.Rules.{Entry, Store}
 use Rattle.table.specs.declared.Table.{Table}
 
 -- f 0 up to f (n - 1)

@@ -4,8 +4,8 @@ use mathlib.Core.Bool.{Bool, true, false}
 use mathlib.Core.List.{[], _∷_, _++_}
 use Prim.Native.Nat.{ℕ, _%_, _^_, _≤_}
 use Rattle.ground.proofs.Congruence.{Same, same-refl, same-add, same-eq, _⊳_}
-use Rattle.algebra.specs.Polynomial.{Poly, keep, sumIf, put, reduce}
-use Rattle.algebra.proofs.Values.{sumIf-append}
+use Rattle.algebra.specs.Polynomial.{Poly, sumIf, put, reduce}
+use Rattle.algebra.proofs.Values.{keep, sumIf-append}
 use Rattle.algebra.proofs.Sums.{reduce-sums}
 use Rattle.words.proofs.Wrap.{cut-cut}
 use Rattle.terms.specs.Terms.{rounded}

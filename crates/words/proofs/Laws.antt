@@ -19,7 +19,7 @@ use mir.Val.{Fits}
 use mir.Syntax.{w64}
 use borrow.Author.Tests.{ltb-true, ltb-false, eqb-true, eqb-false, lt-ltb, le-ltb, eq-eqb, ne-eqb}
 use Rattle.ground.proofs.Tests.{split, by-cond}
-use Rattle.algebra.specs.Sets.{bit, members}
+use Rattle.algebra.specs.Polynomial.{bit, members}
 use Rattle.algebra.proofs.Sets.{bit-zero, bit-suc, bit-of-zero}
 use Rattle.words.specs.Words.{number, orderOf, Lowest}
 use Rattle.words.specs.declared.Order.{Order}

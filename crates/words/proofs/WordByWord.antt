@@ -12,7 +12,7 @@ use lib.Dec.{eqb}
 use lib.ListN.{length, take, drop, getD, set, drop-of-length-le}
 use lib.Pow.{pow-add, pow-pos, shl-exact}
 use lib.Seq.{drop-cons, take-all}
-use Rattle.algebra.specs.Sets.{bit, has, members}
+use Rattle.algebra.specs.Polynomial.{bit, has, members}
 use Rattle.algebra.proofs.Sets.{bit-or, bit-ext}
 use Rattle.words.specs.Words.{number, orderOf}
 use Rattle.words.specs.declared.Order.the-variants.{Less, Equal, Greater}

@@ -4,7 +4,7 @@ ghost use Prim.Native.Nat.{ℕ, _+_, _-_, _*_, _%_, _^_, _≤_, _<_};
 ghost use lib.Bits.{bitOr};
 ghost use lib.ListN.{length};
 ghost use Rattle.limits.specs.Limits.{variables};
-ghost use Rattle.algebra.specs.Sets.{has, members};
+ghost use Rattle.algebra.specs.Polynomial.{has, members};
 ghost use Rattle.words.specs.Words.{number, orderOf, Lowest};
 
 // A set of variables, its lowest word first.

@@ -2,7 +2,7 @@
 use Prim.Native.Nat.{ℕ}
 use mathlib.Core.Path.{ap, _∙_}
 use borrow.Author.Needs.{needs}
-use Rattle.algebra.specs.Sets.{has}
+use Rattle.algebra.specs.Polynomial.{has}
 use Rattle.terms.proofs.stands_in.Statement.{statement}
 use Rattle.terms.proofs.stands_in.Tie as tie
 

@@ -22,7 +22,7 @@ enum-told c = search needs
 
 returns : tie.Need-returns
 unfolding bytes
-returns c = pass-on (c .before .before .keyword .ensures) (c .enum-told .given .1) (λ f. behind-fails (bytes "goal") (goals .fields) f)
+returns c = pass-on (c .before .before .keyword .ensures) (c .enum-told .given .1) (λ f. behind-fails (bytes "goal") (goals .1) f)
 
 tab-field-requires : tie.Need-tab-field-requires
 tab-field-requires c κs = scanned (c .before .before .before .keyword .ensures) (c .before .k .given .1) .taken .inside

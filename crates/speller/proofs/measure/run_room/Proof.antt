@@ -7,7 +7,7 @@ use borrow.Author.Needs.{needs}
 use lib.ListN.{length, drop}
 use Rattle.ground.specs.Lists.{total}
 use Rattle.limits.specs.Limits.{variables}
-use Rattle.algebra.specs.Sets.{members}
+use Rattle.algebra.specs.Polynomial.{members}
 use Rattle.words.specs.Words.{number}
 use Rattle.terms.specs.Terms.{decode}
 use Rattle.speller.specs.Writing.{termRoom, room}

@@ -7,7 +7,7 @@ use borrow.Author.Needs.{needs}
 use lib.ListN.{length}
 use Rattle.limits.specs.Limits.{setWords, variables}
 use Rattle.ground.specs.Lists.{gather}
-use Rattle.algebra.specs.Sets.{members}
+use Rattle.algebra.specs.Polynomial.{members}
 use Rattle.words.specs.Words.{number}
 use Rattle.speller.specs.Writing.{dotted}
 use Rattle.speller.proofs.Pieces.{setRest, set-start, set-length-more, set-end, set-most}

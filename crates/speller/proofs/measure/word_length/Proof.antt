@@ -7,7 +7,7 @@ use borrow.Author.Needs.{needs}
 use lib.ListN.{length}
 use lib.Pow.{pow-pos}
 use Rattle.ground.specs.Lists.{gather}
-use Rattle.algebra.specs.Sets.{members}
+use Rattle.algebra.specs.Polynomial.{members}
 use Rattle.speller.specs.Writing.{dotted}
 use Rattle.speller.proofs.Pieces.{word-length-more, word-end, word-most, word-digits}
 use Rattle.speller.proofs.measure.word_length.Statement.{statement}

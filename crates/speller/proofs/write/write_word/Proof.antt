@@ -5,7 +5,7 @@ use native.Mathlib.Omega.{arith}
 use borrow.Author.Needs.{needs}
 use lib.Pow.{pow-pos}
 use Rattle.ground.specs.Lists.{gather}
-use Rattle.algebra.specs.Sets.{members}
+use Rattle.algebra.specs.Polynomial.{members}
 use Rattle.speller.specs.Writing.{dotted}
 use Rattle.speller.proofs.Written.{Left, left-start, left-more, left-room, left-end}
 use Rattle.speller.proofs.Pieces.{word-more, word-end}
