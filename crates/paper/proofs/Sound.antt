@@ -1,6 +1,6 @@
 -- Statements that stand make a derivation: what they introduce is derived from the inputs, and a goal that is reached is forced. Assumes nothing.
 use mathlib.Core.Path.{_≡_, refl, sym, ap, _∙_, subst}
-use mathlib.Core.Bool.{Bool, true, false, _||_, cond, not}
+use mathlib.Core.Bool.{Bool, true, false, _||_, cond}
 use mathlib.Core.Logic.{⊎-elim}
 use mathlib.Core.List.{List, [], _∷_, _++_, map}
 use Prim.Native.Nat.{ℕ, _+_, _^_, _≤_, _<_}
@@ -12,14 +12,15 @@ use borrow.Author.Tests.{not-false, eqb-true, eqb-false}
 use Rattle.ground.proofs.Congruence.{Same, same-add, same-mul, same-refl, same-eq, _⊳_}
 use Rattle.ground.specs.Lists.{any, gather}
 use Rattle.ground.proofs.Tests.{split, by-cond, or-cases}
-use Rattle.algebra.specs.Polynomial.{bit, Apart, has, Poly, value, vars, equal, products, reduce, product, extension, allVars, AllZero, Forced, Derived, input as inputOf, forced, defined}
+use Rattle.algebra.specs.Polynomial.{bit, Apart, Poly, value, vars, equal, products, reduce, product, extension, allVars, AllZero, Forced, Derived, input as inputOf, forced, defined}
 use Rattle.algebra.proofs.Values.{sumAt, value-reduce, sumAt-append, sumAt-mul}
 use Rattle.algebra.proofs.Sets.{bit-or, bit-lt, bit-of-zero, bit-pow-other, has-false, has-none}
 use Rattle.algebra.proofs.Bit.{equal-true, value-none}
 use Rattle.algebra.proofs.Variables.{vars-extension}
 use Rattle.algebra.proofs.Derivation.{zero-left, zero-right, zero-both}
+use Rattle.limits.specs.Verdicts.{SEEN, MISMATCH, NOTBIT}
 use Rattle.paper.specs.Statement.{Written, Pair, Statement, ring, input, goal, lin, del, ext, onInput, onExt, fields, reduced}
-use Rattle.paper.specs.Rules.{modulo, inputs, steps, Store, find, remove, State, place, entries, makesSeen, combination, holdsGoal, after}
+use Rattle.paper.specs.Rules.{modulo, inputs, steps, Store, find, remove, State, place, entries, makesSeen, combination, holdsGoal, rules, after}
 use Rattle.paper.specs.Answer.{inputsIn, goalIn, introducedIn, definedIn}
 use Rattle.paper.proofs.Stands.{Stands, stands-none}
 use Rattle.paper.proofs.Steps.{Steps, done, step}
@@ -73,10 +74,10 @@ module _ (k : ℕ) where
       ⊳ same-add (same-mul same-refl (record { same = zero-find a (q .index) s h ∙ sym (zero-mod (2 ^ k)) })
       ⊳ same-eq (mul-zero (sumAt a (reduced k (q .factor))))) (zero-combination a qs s h)
 
-  zero-stated : (a : ℕ) (p : Poly) (qs : List Pair) (s : Store) → StoreZero a s → equal p (reduce k (combination k (find s) qs)) ≡ true → value k a p ≡ 0
+  zero-stated : (a : ℕ) (p : Poly) (qs : List Pair) (s : Store) → StoreZero a s → p ≡ reduce k (combination k (find s) qs) → value k a p ≡ 0
   unfolding value
   zero-stated a p qs s h e =
-      ap (value k a) (equal-true p (reduce k (combination k (find s) qs)) e) ∙ value-reduce k a (combination k (find s) qs)
+      ap (value k a) e ∙ value-reduce k a (combination k (find s) qs)
       ∙ zero-combination a qs s h .same ∙ zero-mod (2 ^ k)
 
   -- ---- what holds between two lines: a derivation of ps from is, with definitions for es
@@ -170,12 +171,12 @@ module _ (k : ℕ) where
           (or-cases (s .reached) (holdsGoal (s .goal) (record { index = i; poly = p } ∷ [])) e)
 
       next-lin : (i : ℕ) (p : Written) (qs : List Pair) → s .phase ≡ steps
-          → not (equal (reduced k p) (reduce k (combination k (find (s .store)) qs))) ≡ false → Next (lin i p qs) is es ps
+          → reduced k p ≡ reduce k (combination k (find (s .store)) qs) → Next (lin i p qs) is es ps
       unfolding after entries makesSeen fields
       next-lin i p qs ph e = record {
         ringed = refl;
         begun = g .begun;
-        derived = forced (reduced k p) (record { at = λ b z. zero-stated b (reduced k p) qs (s .store) (g .kept b z) (not-false _ e) }) (g .derived);
+        derived = forced (reduced k p) (record { at = λ b z. zero-stated b (reduced k p) qs (s .store) (g .kept b z) e }) (g .derived);
         kept = λ b z. zero-append b (s .store) _ (g .kept b (z .1)) (z .0, tt);
         witnessed = λ v. all-in (reduced k p) ps _ v (seen-first 0 (reduced k p) _ (s .seen) v) (le-trans (g .witnessed v) (old (lin i p qs) v));
         early = g .early;
@@ -198,14 +199,13 @@ module _ (k : ℕ) where
         hit = λ e. g .hit (none-more (s .reached) e);
       }
 
-      next-ext : (i v : ℕ) (p : Written) → s .phase ≡ steps → has (bitOr (vars (reduced k p)) (s .seen)) v ≡ false
-          → not (equal (product k (reduced k p) (reduced k p)) (reduced k p)) ≡ false
+      next-ext : (i v : ℕ) (p : Written) → s .phase ≡ steps → bit (bitOr (vars (reduced k p)) (s .seen)) v ≡ 0 → product k (reduced k p) (reduced k p) ≡ reduced k p
           → Next (ext i v p) is es ps
       unfolding after entries makesSeen fields
       next-ext i v p ph unseen square = record {
         ringed = refl;
         begun = g .begun;
-        derived = defined v r (equal-true (product k r r) r (not-false _ square)) (has-none (bitOr (vars r) (allVars ps)) v fresh) (g .derived);
+        derived = defined v r square (has-none (bitOr (vars r) (allVars ps)) v fresh) (g .derived);
         kept = λ b z. zero-append b (s .store) _ (g .kept b (z .1)) (z .0, tt);
         witnessed = λ w. all-in (extension k v r) ps _ w
             (omega (arith, vars-extension k w v r, bit-or (2 ^ v) (vars r) w, seen-own (2 ^ v) (allVars (r ∷ [])) (s .seen) w, seen-first (2 ^ v) r [] (s .seen) w))
@@ -219,23 +219,22 @@ module _ (k : ℕ) where
           r : Poly
           r = reduced k p
 
-          both : bit (bitOr (vars r) (s .seen)) v ≡ 0
-          both = has-false (bitOr (vars r) (s .seen)) v unseen
-
           clear : bit (s .seen) v ≡ 0
-          clear = omega (arith, bit-or (vars r) (s .seen) v, both)
+          clear = omega (arith, bit-or (vars r) (s .seen) v, unseen)
 
           fresh : bit (bitOr (vars r) (allVars ps)) v ≡ 0
-          fresh = omega (arith, both, bit-or (vars r) (s .seen) v, bit-or (vars r) (allVars ps) v, g .witnessed v)
+          fresh = omega (arith, unseen, bit-or (vars r) (s .seen) v, bit-or (vars r) (allVars ps) v, g .witnessed v)
 
       next : (st : Statement) → Stands capacity here st → Next st is es ps
-      unfolding place
+      unfolding place rules
       next (ring j) h = absurd (omega (arith, h .placed, g .begun))
       next (input i p) h = next-input i p (sym (h .placed))
       next (goal p) h = next-goal p (sym (h .placed))
-      next (lin i p qs) h = next-lin i p qs (sym (h .placed)) (h .summed)
+      next (lin i p qs) h = next-lin i p qs (sym (h .placed)) (equal-true (reduced k p) (reduce k (combination k (find (s .store)) qs)) (not-false _ (h .passed MISMATCH)))
       next (del i) h = next-del i
-      next (ext i v p) h = next-ext i v p (sym (h .placed)) (h .unseen) (h .square)
+      next (ext i v p) h =
+          next-ext i v p (sym (h .placed)) (has-false (bitOr (vars (reduced k p)) (s .seen)) v (h .passed SEEN))
+          (equal-true (product k (reduced k p) (reduced k p)) (reduced k p) (not-false _ (h .passed NOTBIT)))
 
       aim-next : (st : Statement) (sts : List Statement) → Stands capacity here st → aimOf k (after here st) sts ≡ aimOf k here (st ∷ sts)
       unfolding after goalIn place
