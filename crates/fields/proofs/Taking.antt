@@ -2,20 +2,22 @@
 -- Assumes nothing.
 use mathlib.Core.Path.{_≡_, refl, sym, ap, _∙_}
 use mathlib.Core.Bool.{Bool, true, false, _&&_}
+use mathlib.Core.Logic.{⊎-elim}
 use mathlib.Core.List.{List, [], _∷_, _++_}
-use Prim.Native.Nat.{ℕ, _+_, _-_, _%_, _^_, _<_}
+use Prim.Native.Nat.{ℕ, _+_, _-_, _*_, _%_, _^_, _≤_, _<_}
 use native.Mathlib.Omega.{arith}
 use lib.Bits.{bitOr, or-comm}
 use lib.ListN.{length, drop, getD, length-append}
-use borrow.Author.Tests.{ltb-true, lt-ltb}
+use lib.Dec.{ltb}
+use borrow.Author.Tests.{ltb-true, ltb-false, lt-ltb}
 use Rattle.ground.specs.Lists.{every}
-use Rattle.ground.proofs.Tests.{and-left, and-right}
+use Rattle.ground.proofs.Tests.{split, and-left, and-right}
 use Rattle.algebra.proofs.Unions.{or-assoc}
 use Rattle.words.specs.Words.{number}
-use Rattle.paper.specs.Grammar.{Bytes, Read, got, stuck, Reader, next, each, decimal}
+use Rattle.paper.specs.Grammar.{Bytes, Read, got, stuck, Reader, next, each, digits, decimal}
 use Rattle.paper.specs.Statement.{isVariable, setOf}
 use Rattle.paper.proofs.Ranges.{cond-yes, cond-no}
-use Rattle.paper.proofs.Reading.{parted, Takes, each-more, each-stuck, every-append}
+use Rattle.paper.proofs.Reading.{parted, Takes, each-more, each-stuck, every-append, digits-more, digits-least, decimal-first, decimal-low, decimal-high, decimal-end}
 use Rattle.reader.specs.Numbers.{DecimalIs}
 use Rattle.reader.specs.declared.number.Decimal.{Decimal}
 use Rattle.reader.specs.declared.number.Decimal.the-variants.{Value, Large, Stuck}
@@ -123,3 +125,37 @@ no-variables = refl
 -- one variable more
 pub one-more : (m x v : ℕ) (vs : List ℕ) → x ≡ bitOr (2 ^ v) m → m ≡ setOf vs → x ≡ setOf (vs ++ (v ∷ []))
 one-more m x v vs e h = e ∙ ap (bitOr (2 ^ v)) h ∙ sym (set-of-more vs v)
+
+-- ---- digits of a decimal that a word holds: with one more of them a word still holds it
+pub digit-fits : (first : ℕ) (s : Bytes) (at v i : ℕ) → Good (digits first) isWord s at → digits first (drop at s) ≡ digits v (drop i s) → i < length s
+    → 48 ≤ getD s i 0 → getD s i 0 ≤ 57 → v * 10 + (getD s i 0 - 48) < 2 ^ 64
+digit-fits first s at v i g e h l u =
+    let w : ℕ = v * 10 + (getD s i 0 - 48) in
+    let r : digits w (drop (i + 1) s) ≡ got (g .value) (g .rest) = sym (e ∙ digits-more v s i h l u) ∙ g .reads in
+    omega (arith, digits-least w (drop (i + 1) s) (g .value) (g .rest) r, is-word (g .value) (g .passes))
+
+-- a decimal begins with a digit, and digits that begin with no 0 go on
+pub record Digit (s : Bytes) (at : ℕ) : Type 0 where
+  pub inside : at < length s
+  pub low : 48 ≤ getD s at 0
+  pub high : getD s at 0 ≤ 57
+
+pub first-digit : (s : Bytes) (at : ℕ) → Good decimal isWord s at → Digit s at
+first-digit s at g =
+    ⊎-elim
+    (λ h. ⊎-elim
+    (λ l. absurd (not-both (g .reads) (decimal-low s at (ltb-true at (length s) h) (ltb-true (getD s at 0) 48 l))))
+    (λ l. ⊎-elim
+    (λ u. absurd (not-both (g .reads) (decimal-high s at (ltb-true at (length s) h) (ltb-true 57 (getD s at 0) u))))
+    (λ u. record { inside = ltb-true at (length s) h; low = ltb-false (getD s at 0) 48 l; high = ltb-false 57 (getD s at 0) u })
+    (split (ltb 57 (getD s at 0))))
+    (split (ltb (getD s at 0) 48)))
+    (λ h. absurd (not-both (g .reads) (decimal-end s at (ltb-false at (length s) h))))
+    (split (ltb at (length s)))
+
+pub good-digits : (s : Bytes) (at : ℕ) → Good decimal isWord s at → (getD s at 0 ≡ 48 → ⊥) → Good (digits (getD s at 0 - 48)) isWord s (at + 1)
+good-digits s at g n =
+    let d = first-digit s at g in
+    let l : 48 < getD s at 0 = let a = d .low in omega (arith, n) in
+    let h = d .inside in
+    record { value = g .value; rest = g .rest; reads = sym (decimal-first s at (d .inside) l (d .high)) ∙ g .reads; passes = g .passes; inside = omega arith }

@@ -5,14 +5,12 @@ ghost use Prim.Native.Nat.{_+_, _*_, _^_, _≤_, _<_};
 ghost use lib.ListN.{length};
 ghost use Rattle.ground.specs.Lists.{every};
 ghost use Rattle.limits.specs.Limits.{fieldTerms, termWords};
-ghost use Rattle.paper.specs.Grammar.{decimal, term, polynomial};
+ghost use Rattle.paper.specs.Grammar.{digits, decimal, term, polynomial};
 ghost use Rattle.paper.specs.Statement.{isVariable, isTerm};
 ghost use Rattle.reader.specs.Places.{Got};
 ghost use Rattle.reader.specs.Fields.{moreVariables, moreTerms};
 ghost use Rattle.fields.specs.Worded.{signedWord};
 ghost use Rattle.fields.specs.Fields.{Good, isWord, isRest, isField, NamedAt, TermAt, Appended, RestAt, FieldAt};
-use reader::number::Decimal;
-use reader::number::decimal_at;
 use terms::Term;
 use words::Set;
 
@@ -40,16 +38,40 @@ pub struct FieldRun {
     pub end: usize,
 }
 
+// The decimal whose digits before at have the value first. A scan has found that a word holds it.
+fn take_digits(s: &[u8], at: usize, first: u64) -> Taken
+    requires { ⌜ Good (digits first) isWord (now s) at ⌝ }
+    ensures { λ r. ⌜ Got (digits first) (now (s .entry)) at (r .value) (r .end) ⌝ }
+{
+    let mut value = first;
+    let mut i = at;
+    while i < s.len() {
+        let b = s[i];
+        if b < b'0' {
+            return Taken { value, end: i };
+        }
+        if b'9' < b {
+            return Taken { value, end: i };
+        }
+        value = value * 10 + (b - b'0') as u64;
+        i += 1;
+    }
+    Taken { value, end: i }
+}
+
 // The decimal at at.
 fn take_decimal(s: &[u8], at: usize) -> Taken
     requires { ⌜ Good decimal isWord (now s) at ⌝ }
     ensures { λ r. ⌜ Got decimal (now (s .entry)) at (r .value) (r .end) ⌝ }
 {
-    let d = decimal_at(s, at);
-    let Decimal::Value(value, end) = d else {
-        return Taken { value: 0, end: at };
-    };
-    Taken { value, end }
+    let b = s[at];
+    if b == b'0' {
+        return Taken {
+            value: 0,
+            end: at + 1,
+        };
+    }
+    take_digits(s, at + 1, (b - b'0') as u64)
 }
 
 // The variables at at, each behind a dot.

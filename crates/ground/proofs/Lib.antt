@@ -1,3 +1,4 @@
 pub mod Tests
 pub mod Congruence
 pub mod Square
+pub mod Eight

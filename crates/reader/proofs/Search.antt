@@ -9,10 +9,11 @@ use native.Mathlib.Numerals.{add-one}
 use native.Mathlib.Omega.{arith}
 use lib.Dec.{eqb, ltb}
 use lib.ListN.{length, take, drop, getD, length-drop, take-append-drop}
-use lib.Seq.{drop-cons, drop-drop, take-suc, take-all, getD-drop}
+use lib.Seq.{drop-cons, drop-drop, take-add, take-suc, take-all, getD-drop}
 use borrow.Author.Tests.{ltb-true, ltb-false, eqb-false, ne-eqb, not-true}
-use Rattle.ground.specs.Lists.{every}
+use Rattle.ground.specs.Lists.{every, any}
 use Rattle.ground.proofs.Tests.{split, and-left, and-right, and-both}
+use Rattle.ground.proofs.Eight.{none-of}
 use Rattle.paper.specs.Grammar.{Bytes, onFirst, lines, got}
 use Rattle.paper.proofs.Reading.{every-append, inField, takes-polynomial}
 use Rattle.reader.specs.Places.{part}
@@ -119,3 +120,20 @@ field-end s at r h w f =
       written = w .written;
       taken = record { reads = w .reads ∙ ap (λ (l : Bytes). got (w .written) l) (d ∙ ap (λ (k : ℕ). drop k s) same); onward = o; inside = n };
     }
+
+-- ---- bytes up to a block further
+-- a part is what stands before a place within it, and what stands behind
+pub part-split : (s : Bytes) (at i e : ℕ) → at ≤ i → i ≤ e → part s at e ≡ part s at i ++ part s i e
+part-split s at i e h l =
+    let k : e - at ≡ (i - at) + (e - i) = omega arith in
+    let m : at + (i - at) ≡ i = omega arith in
+    rw (k, take-add (i - at) (e - i) (drop at s), drop-drop (i - at) at s, m)
+
+pub without-more : (b : ℕ) (s : Bytes) (at i : ℕ) → at ≤ i → any (λ x. eqb x b) (take 8 (drop i s)) ≡ false
+    → every (λ x. not (eqb x b)) (part s at i) ≡ true
+    → every (λ x. not (eqb x b)) (part s at (i + 8)) ≡ true
+without-more b s at i h a e =
+    let w : i + 8 - i ≡ 8 = omega arith in
+    let t : Bytes = take 8 (drop i s) in
+    rw (part-split s at i (i + 8) h (omega arith), w, every-append (λ x. not (eqb x b)) (part s at i) t)
+    (and-both (every (λ x. not (eqb x b)) (part s at i)) (every (λ x. not (eqb x b)) t) e (none-of (λ x. eqb x b) t a))

@@ -11,6 +11,12 @@ use Rattle.paper.specs.Grammar.{Bytes, lines, got, polynomial}
 use Rattle.paper.specs.Statement.{Written}
 use Rattle.reader.specs.Places.{part, Got}
 
+-- b does not stand from at up to r
+pub record Without (b : ℕ) (s : Bytes) (at r : ℕ) : Type 0 where
+  pub onward : at ≤ r
+  pub inside : r ≤ length s
+  pub none : every (λ x. not (eqb x b)) (part s at r) ≡ true
+
 -- r is the place of the first b from at on, or the length
 pub record FirstAt (b : ℕ) (s : Bytes) (at r : ℕ) : Type 0 where
   pub onward : at ≤ r

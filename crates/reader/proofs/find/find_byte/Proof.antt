@@ -9,7 +9,7 @@ use lib.ListN.{length}
 use borrow.Author.Needs.{needs}
 use Rattle.ground.specs.Lists.{every}
 use Rattle.reader.specs.Places.{part}
-use Rattle.reader.proofs.Search.{first-start, first-more}
+use Rattle.reader.proofs.Search.{first-more}
 use Rattle.reader.proofs.find.find_byte.Statement.{statement}
 use Rattle.reader.proofs.find.find_byte.Tie as tie
 
@@ -19,8 +19,11 @@ Inv-loop s at b i₀ i = (at ≤ i) × (i ≤ length s) × (every (λ x. not (eq
 abbrev μ-loop : tie.MeasureT-loop
 μ-loop s at b i₀ i = length s - i
 
+skip-requires : tie.Need-skip-requires Inv-loop μ-loop
+skip-requires c κs = search needs
+
 loop-holds : tie.Need-loop-holds Inv-loop μ-loop
-loop-holds c = (omega arith, omega arith, first-start (c .args .b) (c .args .s .now) (c .args .at))
+loop-holds c = let e = c .skip .ensures in (e .onward, e .inside, e .none)
 
 shared-slice-read-if1 : tie.Need-shared-slice-read-if1 Inv-loop μ-loop
 shared-slice-read-if1 c = search needs
@@ -39,7 +42,7 @@ loop-less c = search needs
 loop-again : tie.Need-loop-again Inv-loop μ-loop
 loop-again c =
     let loop = c .before .before .before .loop in
-    let args = c .before .before .before .before .args in
+    let args = c .before .before .before .before .before .before .args in
     (omega arith, omega arith, first-more (args .b) (args .s .now) (args .at) (loop .i) (omega arith) (omega arith) (c .if1 .left) (loop .inv .2))
 
 returns-2 : tie.Need-returns-2 Inv-loop μ-loop
@@ -53,6 +56,7 @@ find-byte-spec =
     (tie.spec
     Inv-loop
     μ-loop
+    skip-requires
     loop-holds
     shared-slice-read-if1
     returns
