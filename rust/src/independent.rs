@@ -164,6 +164,10 @@ fn single(v: u64) -> Set {
     set
 }
 
+fn holds(set: &Set, v: u64) -> bool {
+    set[3 - (v / 64) as usize] >> (v % 64) & 1 == 1
+}
+
 fn reduced(written: &Written, k: u32) -> Poly {
     let mut p = Poly::new();
     for t in written {
@@ -209,11 +213,7 @@ impl State {
 
     fn see(&mut self, p: &Poly) {
         for set in p.keys() {
-            for v in 0..256 {
-                if union(set, &single(v)) == *set {
-                    self.seen.insert(v);
-                }
-            }
+            self.seen.extend((0..256).filter(|&v| holds(set, v)));
         }
     }
 
@@ -312,7 +312,7 @@ impl State {
         self.stands(Phase::Steps)?;
         self.free(i)?;
         let p = reduced(p, self.k);
-        if self.seen.contains(&v) || p.keys().any(|s| union(s, &single(v)) == *s) {
+        if self.seen.contains(&v) || p.keys().any(|s| holds(s, v)) {
             return Err(SEEN);
         }
         let products = p.len() * p.len();

@@ -4,7 +4,6 @@ use Prim.Native.Nat.{ℕ, zero, suc, _+_, _-_, _*_, _/_, _%_, _^_, _<_}
 use lib.{Bits.bitAnd, Bits.bitOr, Dec.eqb, Dec.ltb}
 
 -- ---- a set of variables is a number in which variable v weighs 2 ^ v, and `bitOr` unites; an assignment is the set of the variables that are 1
--- 1 where variable v stands in m, else 0
 unfoldable pub bit : ℕ → ℕ → ℕ
 bit m v = m / 2 ^ v % 2
 

@@ -33,7 +33,11 @@ pub const LEAST_SCRATCH: usize = 6560;
 
 pub const LEAST_SPELLING_SCRATCH: usize = 480;
 
-// ---- the longest text that a host call or a program takes
+// ---- what the host call and the check program lend, and the longest text they take
+pub const HOST_POOL: usize = 8000;
+
+pub const HOST_SCRATCH: usize = 6560;
+
 pub const HOST_TEXT_BYTES: usize = 65536;
 
 // ---- verdicts

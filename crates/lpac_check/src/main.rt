@@ -32,13 +32,13 @@ fn too_long() -> Answer {
 }
 
 fn main() {
-    let mut text = [0u8; 65537];
+    let mut text = [0u8; limits::HOST_TEXT_BYTES + 1];
     let n = io::read_full(STDIN_FILENO, &mut text);
     if limits::HOST_TEXT_BYTES < n {
         say_answer(too_long());
         return;
     }
-    let mut pool = [0u64; 8000];
-    let mut scratch = [0u64; 6560];
+    let mut pool = [0u64; limits::HOST_POOL];
+    let mut scratch = [0u64; limits::HOST_SCRATCH];
     say_answer(checker::check(&text[..n], &mut pool, &mut scratch));
 }

@@ -26,8 +26,7 @@ unfoldable pub lines : Bytes → List Line
 lines [] = []
 lines (b ∷ s) = cond (eqb b (code "\n")) (record { content = []; ended = true } ∷ lines s) (onFirst b (lines s))
 
--- ---- readers: one that fails stops at the first byte that no well-formed line with this beginning has
--- what was read and the bytes left, or the bytes from the one that cannot stand there
+-- ---- readers: what was read and the bytes left, or the bytes from the first that no well-formed line with this beginning has
 pub data Read (A : Type 0) : Type 0 where
   got : A → Bytes → Read A
   stuck : Bytes → Read A

@@ -10,8 +10,7 @@ use Rattle.paper.specs.Statement.{Written, isRing, inRange, tooManyTerms
 use Rattle.paper.specs.Grammar.{Bytes, bytes, Read, got, stuck, Reader, _>>=_, _>>_, give, end, polynomial}
 use Rattle.paper.specs.Rules.{first}
 
--- ---- the spelling
--- the decimal of n, which has at most d digits
+-- ---- the spelling; first, the decimal of n, which has at most d digits
 unfoldable pub spellDigits : ℕ → ℕ → Bytes
 spellDigits zero n = []
 spellDigits (suc d) n =

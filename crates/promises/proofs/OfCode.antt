@@ -7,7 +7,9 @@ use Rattle.paper.specs.Answer as paper
 use Rattle.paper.specs.Answer.{roomAfter}
 use Rattle.checker.specs.declared.answer.Answer.{Answer}
 use Rattle.checker.specs.Checked.{answerOf}
-use Rattle.promises.specs.Promises.{Decided, CheckedIsSound}
+use Rattle.limits.specs.Limits.{hostPool, hostScratch}
+use Rattle.lpac_host.proofs.Hosting.{hosted-one, hosted-verdict, hosted-line, hosted-accepted}
+use Rattle.promises.specs.Promises.{Decided, CheckedIsSound, HostDecided, HostTells, HostedIsSound}
 use Rattle.promises.proofs.Promises.{accepted-is-sound}
 
 -- the six numbers are all there is of an answer
@@ -33,3 +35,12 @@ decided text pool scratch a b p q r s c d =
 pub checked-is-sound : CheckedIsSound
 checked-is-sound text pool scratch a p q c e =
     accepted-is-sound text (length pool) (length scratch) (sym (ap (λ (x : paper.Answer). x .verdict) (c .answer)) ∙ e)
+
+pub host-decided : HostDecided
+host-decided = hosted-one
+
+pub host-tells : HostTells
+host-tells text r h = (hosted-verdict text r h, hosted-line text r h)
+
+pub hosted-is-sound : HostedIsSound
+hosted-is-sound text r h e = accepted-is-sound text hostPool hostScratch (hosted-accepted text r h e)

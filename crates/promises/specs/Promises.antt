@@ -1,6 +1,6 @@
 -- What is promised, one type a promise. Each is proved in proofs/.
 use mathlib.Core.{Path._≡_, Bool.true, Logic._⊎_, Logic._↔_, List.List, List.[], List._++_, List.map}
-use Prim.Native.Nat.{ℕ, _+_, _*_, _%_, _^_, _<_}
+use Prim.Native.Nat.{ℕ, _+_, _*_, _/_, _%_, _^_, _<_}
 use Rattle.limits.specs.Limits.{variables}
 use Rattle.limits.specs.Verdicts.{ACCEPTED, SHORT, LONGTEXT}
 use Rattle.algebra.specs.Polynomial.{DifferOnlyAt, Apart, Poly, value, vars, coefOf, reduce, product, Below, Reduced, AllZero, Forced, Derived}
@@ -10,6 +10,7 @@ use Rattle.paper.specs.Answer.{Answer, answer, statements, ringIn, definedIn, i
 use Rattle.paper.specs.Spelling.{spell, wholeField}
 use Rattle.checker.specs.declared.answer.Answer as code
 use Rattle.checker.specs.Checked.{Checked}
+use Rattle.lpac_host.specs.Hosted.{hostAnswer, lineWeight, Hosted}
 
 -- ---- algebra: a reduced sum or product has the sum or product of the values
 abbrev pub SumOfValues : Type 0
@@ -57,12 +58,20 @@ CountsAreSums = (text : Bytes) (pool scratch : ℕ) → (answer text pool scratc
 
 -- ---- the code: the contract `Checked` decides the six numbers and both rooms afterwards, and what it accepts is sound
 abbrev pub Decided : Type 0
-Decided = (text : Bytes) (pool scratch : List ℕ) (a b : code.Answer) (p q r s : List ℕ) → Checked text pool scratch a p q → Checked text pool scratch b r s
-    → (a ≡ b) × (p ≡ r) × (q ≡ s)
+Decided = (text : Bytes) (pool scratch : List ℕ) (a b : code.Answer) (p q r s : List ℕ) → Checked text pool scratch a p q → Checked text pool scratch b r s → (a ≡ b) × (p ≡ r) × (q ≡ s)
 
 abbrev pub CheckedIsSound : Type 0
-CheckedIsSound = (text : Bytes) (pool scratch : List ℕ) (a : code.Answer) (p q : List ℕ) → Checked text pool scratch a p q → a .verdict ≡ ACCEPTED
-    → Sound (statements text) (ringIn (statements text))
+CheckedIsSound = (text : Bytes) (pool scratch : List ℕ) (a : code.Answer) (p q : List ℕ) → Checked text pool scratch a p q → a .verdict ≡ ACCEPTED → Sound (statements text) (ringIn (statements text))
+
+-- ---- the host call: its number for every text, verdict and line read off it, and what it accepts is sound
+abbrev pub HostDecided : Type 0
+HostDecided = (text : Bytes) (r s : ℕ) → Hosted text r → Hosted text s → r ≡ s
+
+abbrev pub HostTells : Type 0
+HostTells = (text : Bytes) (r : ℕ) → Hosted text r → (r % lineWeight ≡ hostAnswer text .verdict) × (r / lineWeight ≡ hostAnswer text .line)
+
+abbrev pub HostedIsSound : Type 0
+HostedIsSound = (text : Bytes) (r : ℕ) → Hosted text r → r ≡ ACCEPTED → Sound (statements text) (ringIn (statements text))
 
 -- ---- spelling: reading it as a whole field gives back the polynomial that it came from
 abbrev pub ReadBack : Type 0

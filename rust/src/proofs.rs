@@ -1,0 +1,126 @@
+//! True proofs at random: every lin line states the sum that it computes, every ext line defines a bit, and the goal is reached.
+
+use crate::polynomial::Polynomial;
+use crate::random::Random;
+use std::collections::HashSet;
+
+/// Variables at the ends of the four words of a set, and some between.
+pub const VARIABLES: [u8; 12] = [0, 1, 2, 3, 62, 63, 64, 127, 128, 191, 192, 255];
+
+/// A proof in the making.
+struct Proof {
+    k: u32,
+    inputs: Vec<String>,
+    steps: Vec<String>,
+    stored: Vec<(u64, Polynomial)>,
+    introduced: Vec<Polynomial>,
+    defined: Vec<u8>,
+    seen: HashSet<u8>,
+    next: u64,
+}
+
+/// The lines of a proof that a checker accepts, unless no goal could be found for it.
+pub fn lines(random: &mut Random) -> Vec<String> {
+    let k = *random.pick(&[1, 1, 2, 3, 8, 16, 31, 32, 33, 63, 64]);
+    let next = *random.pick(&[1, 1, 1, 9, 4_294_967_200]);
+    let (inputs, steps, stored, introduced, defined) = (vec![], vec![], vec![], vec![], vec![]);
+    let mut proof = Proof { k, inputs, steps, stored, introduced, defined, seen: HashSet::new(), next };
+    for _ in 0..random.below(5) {
+        proof.input(random);
+    }
+    for _ in 0..random.below(8) {
+        proof.step(random);
+    }
+    proof.lines(random)
+}
+
+/// A polynomial of up to so many terms.
+pub fn polynomial(k: u32, most: usize, random: &mut Random) -> Polynomial {
+    let mut p = Polynomial::default();
+    for _ in 0..random.between(0, most) {
+        let c = *random.pick(&[1, 1, 2, 3, u64::MAX, 1 << (k - 1), 0x1234_5678_9ABC_DEF1]);
+        let set: Vec<u8> = (0..random.below(4)).map(|_| *random.pick(&VARIABLES)).collect();
+        p = p.plus_term(k, c, &set);
+    }
+    p
+}
+
+impl Proof {
+    fn store(&mut self, p: Polynomial) {
+        self.seen.extend(p.variables());
+        self.stored.push((self.next, p.clone()));
+        self.introduced.push(p);
+        self.next += 1;
+    }
+
+    fn input(&mut self, random: &mut Random) {
+        let p = polynomial(self.k, 5, random);
+        self.inputs.push(format!("in\t{}\t{}", self.next, p.written(self.k, random)));
+        self.store(p);
+    }
+
+    fn step(&mut self, random: &mut Random) {
+        match random.below(8) {
+            0 if self.stored.len() > 1 => {
+                let (index, _) = self.stored.remove(random.below(self.stored.len()));
+                self.steps.push(format!("del\t{index}"));
+            }
+            3..=7 if !self.stored.is_empty() => self.lin(random),
+            _ => self.ext(random),
+        }
+    }
+
+    fn lin(&mut self, random: &mut Random) {
+        let mut sum = Polynomial::default();
+        let mut pairs = String::new();
+        for _ in 0..random.between(1, 3) {
+            let factor = polynomial(self.k, 3, random);
+            let (index, p) = random.pick(&self.stored);
+            sum = sum.plus_times(self.k, 1, &factor.times(self.k, p));
+            pairs += &format!("\t{index}\t{}", factor.written(self.k, random));
+            self.seen.extend(factor.variables());
+        }
+        if sum.terms() <= 40 {
+            self.steps.push(format!("lin\t{}\t{}{pairs}", self.next, sum.written(self.k, random)));
+            self.store(sum);
+        }
+    }
+
+    fn ext(&mut self, random: &mut Random) {
+        let p = self.bit(2, random);
+        let fresh = (0..50).map(|_| random.below(256) as u8).find(|v| !self.seen.contains(v) && !p.holds(*v));
+        let Some(v) = fresh else { return };
+        self.steps.push(format!("ext\t{}\t{v}\t{}", self.next, p.written(self.k, random)));
+        self.defined.push(v);
+        self.store(p.plus_term(self.k, u64::MAX, &[v]));
+    }
+
+    /// A polynomial that is 0 or 1 everywhere: variables, their products, negations and exclusive ors.
+    fn bit(&self, depth: usize, random: &mut Random) -> Polynomial {
+        let k = self.k;
+        match random.below(if depth == 0 { 2 } else { 6 }) {
+            0 => Polynomial::variable(*random.pick(&VARIABLES)),
+            1 if self.defined.is_empty() => Polynomial::default().plus_term(k, random.below(2) as u64, &[]),
+            1 => Polynomial::variable(*random.pick(&self.defined)),
+            2 => Polynomial::default().plus_term(k, 1, &[]).plus_times(k, u64::MAX, &self.bit(depth - 1, random)),
+            3 => self.bit(depth - 1, random).times(k, &self.bit(depth - 1, random)),
+            _ => {
+                let (p, q) = (self.bit(depth - 1, random), self.bit(depth - 1, random));
+                let both = p.times(k, &q);
+                p.plus_times(k, 1, &q).plus_times(k, u64::MAX - 1, &both)
+            }
+        }
+    }
+
+    /// The goal is what some line introduces; a variable of an ext line in it would be seen too early.
+    fn lines(&self, random: &mut Random) -> Vec<String> {
+        let free = |p: &&Polynomial| !self.defined.iter().any(|v| p.holds(*v));
+        let reached: Vec<&Polynomial> = self.introduced.iter().filter(free).collect();
+        let goal = if reached.is_empty() { Polynomial::default() } else { (*random.pick(&reached)).clone() };
+        let mut lines = vec![format!("ring\t{}", self.k)];
+        lines.extend(self.inputs.iter().cloned());
+        lines.push(format!("goal\t{}", goal.written(self.k, random)));
+        lines.extend(self.steps.iter().cloned());
+        lines
+    }
+}

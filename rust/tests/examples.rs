@@ -1,0 +1,100 @@
+//! The examples that are shipped, through the command, the check program and the C example.
+
+mod common;
+
+use common::{at_root, run, run_check_program};
+use lofashunge::host::{self, VERDICTS};
+use lofashunge::multiplier::{self, Style};
+use std::path::{Path, PathBuf};
+use std::process::Command;
+
+/// Each file with what the command says of it, and its verdict and line.
+const EXAMPLES: [(&str, &str, &str); 3] = [
+    ("examples/multiplier.lpac", "accepted", "0\t0"),
+    ("examples/refused.lpac", "refused, MISMATCH (12) at line 4: lin\\t2\\t1.2\\t1\\t1.0 -1", "12\t4"),
+    ("examples/sample.lpac", "accepted", "0\t0"),
+];
+
+#[test]
+fn the_command_tells_of_each_file_in_the_order_of_the_arguments() {
+    let many: Vec<_> = EXAMPLES.iter().cycle().take(40).collect();
+    let said =
+        Command::new(env!("CARGO_BIN_EXE_lpac")).current_dir(at_root("")).arg("check").args(many.iter().map(|e| e.0)).output().unwrap();
+    let expected: String = many.iter().map(|(name, words, _)| format!("{name}: {words}\n")).collect();
+    assert_eq!(String::from_utf8(said.stdout).unwrap(), expected);
+    assert_eq!(said.status.code(), Some(1));
+}
+
+#[test]
+fn the_command_has_status_0_where_all_are_accepted() {
+    let names = EXAMPLES.iter().filter(|e| e.1 == "accepted").map(|e| e.0);
+    let said = Command::new(env!("CARGO_BIN_EXE_lpac")).current_dir(at_root("")).arg("check").args(names).output().unwrap();
+    assert_eq!(said.status.code(), Some(0));
+}
+
+#[test]
+fn the_check_program_gives_the_same_verdict_and_line() {
+    for (name, _, numbers) in EXAMPLES {
+        let said = run_check_program(&std::fs::read(at_root(name)).unwrap());
+        assert!(String::from_utf8(said.stdout).unwrap().starts_with(&format!("{numbers}\t")));
+    }
+}
+
+#[test]
+fn help_lists_every_verdict() {
+    let said = Command::new(env!("CARGO_BIN_EXE_lpac")).arg("--help").output().unwrap();
+    let words = String::from_utf8(said.stdout).unwrap();
+    for (number, (name, when)) in VERDICTS.iter().enumerate() {
+        assert!(words.contains(&format!("{number:2}  {name:10}  {when}\n")));
+    }
+    assert_eq!(said.status.code(), Some(0));
+}
+
+#[test]
+fn the_multiplier_is_the_one_that_the_maker_makes() {
+    assert_eq!(std::fs::read(at_root("examples/multiplier.lpac")).unwrap(), multiplier::text(2, 4, Style::Cells));
+}
+
+// ---- C
+
+fn c_example() -> PathBuf {
+    let program = Path::new(env!("CARGO_TARGET_TMPDIR")).join("check");
+    let mut gcc = Command::new("gcc");
+    gcc.args([
+        "-std=c11",
+        "-O2",
+        "-Wall",
+        "-Wextra",
+        "-Werror",
+        "-Iinclude",
+        "examples/c/check.c",
+        "target/staticlib/liblpac_host.a",
+        "-o",
+    ]);
+    let built = gcc.arg(&program).current_dir(at_root("")).output().expect("gcc is there");
+    assert!(built.status.success(), "{}", String::from_utf8_lossy(&built.stderr));
+    program
+}
+
+#[test]
+fn the_c_example_gives_the_same_verdict_and_line() {
+    let program = c_example();
+    let long = Path::new(env!("CARGO_TARGET_TMPDIR")).join("long");
+    std::fs::write(&long, vec![b'\n'; 1_000_000]).unwrap();
+    for (name, numbers) in EXAMPLES.iter().map(|e| (at_root(e.0), e.2)).chain([(long, "2\t0")]) {
+        let said = run(Command::new(&program).arg(&name), b"");
+        let verdict = host::check(&std::fs::read(&name).unwrap());
+        assert_eq!(String::from_utf8(said.stdout).unwrap(), format!("{numbers}\n"));
+        assert_eq!(format!("{}\t{}", verdict.number, verdict.line), numbers);
+        assert_eq!(said.status.code(), Some((verdict.number != 0) as i32));
+    }
+    assert_eq!(run(Command::new(&program).arg("no/such"), b"").status.code(), Some(2));
+}
+
+#[test]
+fn the_header_has_the_verdicts_names_and_numbers() {
+    let header = std::fs::read_to_string(at_root("include/lpac.h")).unwrap();
+    for (number, (name, _)) in VERDICTS.iter().enumerate() {
+        assert!(header.contains(&format!("LPAC_{name} = {number},")) || header.contains(&format!("LPAC_{name} = {number}\n")));
+    }
+}

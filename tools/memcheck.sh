@@ -1,0 +1,33 @@
+#!/usr/bin/env bash
+# Runs the check program and the C example under valgrind's memcheck on accepted and refused texts, and prints the errors of each.
+# Needs `rt check lpac_check`, `rt staticlib lpac_host`, gcc and valgrind.
+set -euo pipefail
+cd "$(dirname "$0")/.."
+folder=$(mktemp -d)
+trap 'rm -rf "$folder"' EXIT
+gcc -std=c11 -O2 -g -Iinclude examples/c/check.c target/staticlib/liblpac_host.a -o "$folder/check"
+
+multiplier() { (cd rust && cargo run --release --offline --quiet --bin multiplier "$@"); }
+cp examples/sample.lpac examples/multiplier.lpac examples/refused.lpac "$folder"
+multiplier 8 16 cells > "$folder/eight"
+multiplier 4 16 fine | sed 's/^in\t17\t/&1 /' > "$folder/wrong_gate"
+: > "$folder/empty"
+printf '\000\001\377\n' > "$folder/binary"
+head -c 70000 /dev/zero > "$folder/long"
+{ printf 'ring\t8\n' && seq 513 | sed 's/.*/in\t&\t1/'; } > "$folder/full"
+
+errors() {
+    local input=$1
+    shift
+    { valgrind --leak-check=full "$@" < "$input" 2>&1 > /dev/null || true; } | sed -n 's/.*ERROR SUMMARY: \([0-9]*\) errors.*/\1/p'
+}
+
+printf 'text\tverdict\tlpac_check\tcheck.c\n'
+for text in sample.lpac multiplier.lpac eight refused.lpac wrong_gate full long binary empty; do
+    input=$folder/$text
+    verdict=$(target/bin/lpac_check < "$input" | cut -f 1)
+    program=$(errors "$input" target/bin/lpac_check)
+    example=$(errors /dev/null "$folder/check" "$input")
+    printf '%s\t%s\t%s\t%s\n' "$text" "$verdict" "$program" "$example"
+    [ "$program$example" = 00 ]
+done
