@@ -2,14 +2,26 @@
 use libc::STDIN_FILENO;
 use libc::STDOUT_FILENO;
 
-fn main() {
-    let mut text = [0u8; limits::TEXT_BYTES];
-    let n = io::read_full(STDIN_FILENO, &mut text);
-    let mut pool = [0u64; 8000];
-    let mut scratch = [0u64; limits::LEAST_SCRATCH];
-    let a = checker::check(&text[..n], &mut pool, &mut scratch);
+// How often a text is read and checked.
+const TURNS: usize = 1;
+
+// Reads a text into this room, as much as it holds, and says what the checker says of it.
+fn check_input(text: &mut [u8], pool: &mut [u64], scratch: &mut [u64]) {
+    let n = io::read_full(STDIN_FILENO, text);
+    let a = checker::check(&text[..n], pool, scratch);
     io::print_decimal(STDOUT_FILENO, a.verdict);
     io::write_all(STDOUT_FILENO, b"\t");
     io::print_decimal(STDOUT_FILENO, a.line);
     io::write_all(STDOUT_FILENO, b"\n");
+}
+
+fn main() {
+    let mut text = [0u8; limits::TEXT_BYTES];
+    let mut pool = [0u64; limits::HOST_POOL];
+    let mut scratch = [0u64; limits::HOST_SCRATCH];
+    let mut turn = 0;
+    while turn < TURNS {
+        check_input(&mut text, &mut pool, &mut scratch);
+        turn += 1;
+    }
 }
