@@ -26,14 +26,13 @@ pub(crate) fn run(text: &[u8], pool: &mut [u64], scratch: &mut [u64], capacity: 
         let ended = e < text.len();
         let r = judge_line(state, &text[at..e], ended, pool, scratch, capacity);
         let v = r.verdict;
-        let mut next = r.state;
+        state = r.state;
         if v != limits::ACCEPTED {
             let i = refused_index(&text[at..e], ended, v);
-            let n = next.lines + 1;
-            return report(next, v, n, i);
+            let n = state.lines + 1;
+            return report(state, v, n, i);
         }
-        next.lines += 1;
-        state = next;
+        state.lines += 1;
         at = e + 1;
     }
     ending(state)

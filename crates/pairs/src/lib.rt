@@ -19,6 +19,7 @@ ghost use Rattle.pairs.specs.Pairs.{PairsAt, StoredPairs, PoolHolds, Sum
 use reader::number::Decimal;
 use table::Column;
 use table::Found;
+use table::Indices;
 use words::Set;
 
 // Too many products, or how many there are and the variables that the factors make seen.
@@ -62,7 +63,7 @@ fn take_index(line: &[u8], at: usize) -> Index
 }
 
 // Whether every pair from the tab at at on names one of the first n indices of a column.
-pub fn all_stored(indices: &Column, n: usize, line: &[u8], at: usize) -> bool
+pub fn all_stored(indices: &Indices, n: usize, line: &[u8], at: usize) -> bool
     requires { ⌜ (n ≤ storedPolynomials) × ((qs : List Pair) × PairsAt (now line) at qs) ⌝ }
     ensures { λ r. ⌜
         ((qs : List Pair) → PairsAt (now (line .entry)) at qs → (starts counts pool : List ℕ)
@@ -100,7 +101,7 @@ fn append_products(scratch: &mut [u64], n: usize, f: usize, b: &[u64], m: usize)
 }
 
 // The place of the polynomial that the index at at names.
-fn place_of(indices: &Column, n: usize, line: &[u8], at: usize) -> Place
+fn place_of(indices: &Indices, n: usize, line: &[u8], at: usize) -> Place
     requires { ⌜ (n ≤ storedPolynomials) × Names (now indices) n (now line) at ⌝ }
     ensures { λ r. ⌜ PlaceOf (now (indices .entry)) n (now (line .entry)) at r ⌝ }
 {
@@ -150,7 +151,7 @@ fn add_products<'a>(
 
 // Puts the products of the pair behind the tab at at behind the terms from word 0 on, unless there are too many.
 fn add_pair<'a>(
-    indices: &'a Column,
+    indices: &'a Indices,
     starts: &'a Column,
     counts: &'a Column,
     n: usize,
@@ -177,7 +178,7 @@ fn add_pair<'a>(
 
 // Writes the products of the pairs from the tab at at on from word 0 of the scratch on.
 pub fn sum_pairs<'a>(
-    indices: &'a Column,
+    indices: &'a Indices,
     starts: &'a Column,
     counts: &'a Column,
     n: usize,

@@ -2,10 +2,10 @@
 use mathlib.Core.Path.{_≡_}
 use mathlib.Core.Bool.{Bool, not, cond}
 use mathlib.Core.List.{List, [], _∷_, _++_}
-use Prim.Native.Nat.{ℕ}
+use Prim.Native.Nat.{ℕ, _≤_}
 use lib.Dec.{eqb, leb, ltb}
 use lib.ListN.{length}
-use Rattle.limits.specs.Limits.{greatestIndex, lineProducts}
+use Rattle.limits.specs.Limits.{greatestIndex, fieldTerms, lineProducts, leastScratch}
 use Rattle.limits.specs.Verdicts.{ACCEPTED, ORDER, TAKEN, MISSING, SEEN, PRODUCTS, MISMATCH, NOTBIT, FULL}
 use Rattle.algebra.specs.Polynomial.{Poly}
 use Rattle.words.specs.Words.{number}
@@ -51,6 +51,10 @@ gained s i p g = record {
   reached = g .reached;
   products = g .products;
 }
+
+-- n terms of the stated region can be kept
+abbrev pub Keepable : ℕ → ℕ → State → List ℕ → List ℕ → Type 0
+Keepable capacity n s pool scratch = Fitting (s .table) pool capacity × (leastScratch ≤ length scratch) × (n ≤ fieldTerms)
 
 -- FULL, and all as it was; or p is the last entry
 pub record Kept (capacity i : ℕ) (p : Poly) (g : Gain) (s : State) (pool scratch : List ℕ) (r : Step) (pool′ : List ℕ) : Type 0 where

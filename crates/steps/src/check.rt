@@ -19,6 +19,7 @@ ghost use Rattle.steps.specs.Parts.{admits};
 ghost use Rattle.steps.specs.Checks.{Extends, Sums};
 use table::Column;
 use table::Found;
+use table::Indices;
 use table::find;
 use words::Set;
 
@@ -42,7 +43,7 @@ fn refusal(verdict: u64, seen: Set) -> Checked
 }
 
 // How a line is refused that stands in the wrong phase or under an index that is stored.
-pub(crate) fn admit(phase: u8, place: u8, indices: &Column, n: usize, index: u32) -> u64
+pub(crate) fn admit(phase: u8, place: u8, indices: &Indices, n: usize, index: u32) -> u64
     requires { ⌜ n ≤ storedPolynomials ⌝ }
     ensures { λ r. ⌜ ((starts counts pool : List ℕ) → r ≡ admits place phase (stored (firsts (entryAt (now (indices .entry)) starts counts pool) n) index) 0) ⌝ }
 {
@@ -122,48 +123,37 @@ fn is_reduced(scratch: &mut [u64], n: usize, m: usize, k: u32) -> bool
     same_runs(scratch, regions::STATED, n, 0, left)
 }
 
-// Whether the pairs from the tab at at on name stored polynomials and give the n terms of the stated region.
+// Whether the pairs from the tab at at on name stored polynomials and give the stated terms of the stated region.
 pub(crate) fn add_up<'a>(
-    indices: &'a Column,
+    indices: &'a Indices,
     starts: &'a Column,
     counts: &'a Column,
-    stored: usize,
+    n: usize,
     line: &[u8],
     at: usize,
     pool: &[u64],
     scratch: &mut [u64],
-    n: usize,
+    stated: usize,
     k: u32,
     seen: Set,
 ) -> Checked
     requires { ⌜
-        ((qs : List Pair) × PairsAt (now line) at qs) × PoolHolds (now starts) (now counts) stored (now pool)
-        × (n ≤ fieldTerms) × (leastScratch ≤ length (now scratch)) × (1 ≤ k) × (k ≤ 64)
+        ((qs : List Pair) × PairsAt (now line) at qs) × PoolHolds (now starts) (now counts) n (now pool)
+        × (stated ≤ fieldTerms) × (leastScratch ≤ length (now scratch)) × (1 ≤ k) × (k ≤ 64)
         ⌝ }
     ensures { λ r. ⌜
         ((qs : List Pair) → PairsAt (now (line .entry)) at qs
-        → Sums k (firsts (entryAt (now (indices .entry)) (now (starts .entry)) (now (counts .entry)) (now (pool .entry))) stored) qs n (number seen) (now (scratch .entry)) (now (scratch .exit)) r)
+        → Sums k (firsts (entryAt (now (indices .entry)) (now (starts .entry)) (now (counts .entry)) (now (pool .entry))) n) qs stated (number seen) (now (scratch .entry)) (now (scratch .exit)) r)
         ⌝ }
 {
-    if !pairs::all_stored(indices, stored, line, at) {
+    if !pairs::all_stored(indices, n, line, at) {
         return refusal(limits::MISSING, seen);
     }
-    let sum = pairs::sum_pairs(
-        indices,
-        starts,
-        counts,
-        stored,
-        line,
-        at,
-        pool,
-        scratch,
-        k,
-        seen,
-    );
+    let sum = pairs::sum_pairs(indices, starts, counts, n, line, at, pool, scratch, k, seen);
     if sum.over {
         return refusal(limits::PRODUCTS, seen);
     }
-    if !is_reduced(scratch, n, sum.terms, k) {
+    if !is_reduced(scratch, stated, sum.terms, k) {
         return refusal(limits::MISMATCH, seen);
     }
     let all = sum.seen;

@@ -1,14 +1,13 @@
 // The state between two lines, and what every step that stores a polynomial does at its end.
 ghost use mathlib.Core.Path.{_≡_};
-ghost use Prim.Native.Nat.{_≤_};
-ghost use lib.ListN.{length, drop};
-ghost use Rattle.limits.specs.Limits.{fieldTerms, leastScratch};
+ghost use lib.ListN.{drop};
 ghost use Rattle.terms.specs.Terms.{decode};
-ghost use Rattle.table.specs.Table.{Fitting};
 ghost use Rattle.regions.specs.Regions.{statedAt};
 ghost use Rattle.steps.specs.State.{Fresh};
-ghost use Rattle.steps.specs.Parts.{Kept};
+ghost use Rattle.steps.specs.Parts.{Keepable, Kept};
 use table::Table;
+use table::put;
+use table::put_index;
 use words::Set;
 
 // The phases: before the ring line, before the goal line, after it.
@@ -81,28 +80,24 @@ impl State {
         scratch: &[u64],
         capacity: usize,
     ) -> Step
-        requires { ⌜
-            Fitting (self .table) (now pool) capacity × (leastScratch ≤ length (now scratch))
-            × (n ≤ fieldTerms)
-            ⌝ }
+        requires { ⌜ Keepable capacity n self (now pool) (now scratch) ⌝ }
         ensures { λ r. ⌜ Kept capacity index (decode n (drop statedAt (now (scratch .entry)))) gain self (now (pool .entry)) (now (scratch .entry)) r (now (pool .exit)) ⌝ }
     {
+        let at = self.table.stored;
         let used = self.table.used;
-        if limits::STORED_POLYNOMIALS <= self.table.stored {
+        if limits::STORED_POLYNOMIALS <= at {
             return self.refuse(limits::FULL);
         }
         if capacity < used + n {
             return self.refuse(limits::FULL);
         }
-        terms::move_run(
-            &scratch[regions::STATED..],
-            n,
-            pool,
-            used * limits::TERM_WORDS,
-        );
-        let t = self.table;
-        let pushed = t.push(index, n);
-        self.table = pushed;
+        let end = used * limits::TERM_WORDS;
+        terms::move_run(&scratch[regions::STATED..], n, pool, end);
+        put_index(&mut self.table.indices, at, index);
+        put(&mut self.table.starts, at, used as u16);
+        put(&mut self.table.counts, at, n as u16);
+        self.table.stored = at + 1;
+        self.table.used = used + n;
         let seen = gain.seen;
         self.seen = seen;
         self.reached = gain.reached;

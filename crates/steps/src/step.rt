@@ -16,6 +16,9 @@ use super::state::STEPS;
 use super::state::State;
 use super::state::Step;
 use table::Found;
+use table::close;
+use table::close_gap;
+use table::close_indices;
 use table::find;
 
 impl State {
@@ -49,9 +52,20 @@ impl State {
         let Found::At(j) = found else {
             return self.refuse(limits::MISSING);
         };
-        let t = self.table;
-        let left = t.forget(pool, j);
-        self.table = left;
+        let n = self.table.stored;
+        let used = self.table.used;
+        let count = close(&mut self.table.counts, j, n, 0);
+        let start = close(&mut self.table.starts, j, n, count);
+        close_indices(&mut self.table.indices, j, n);
+        let len = count as usize;
+        close_gap(
+            pool,
+            start as usize * limits::TERM_WORDS,
+            len * limits::TERM_WORDS,
+            used * limits::TERM_WORDS,
+        );
+        self.table.stored = n - 1;
+        self.table.used = used - len;
         Step {
             verdict: limits::ACCEPTED,
             state: self,
@@ -64,18 +78,19 @@ impl State {
         line: &[u8],
         pool: &mut [u64],
         scratch: &mut [u64],
-        capacity: usize,
+        limit: usize,
     ) -> Step
-        requires { ⌜ Says (now line) Input × Room capacity self (now pool) (now scratch) ⌝ }
-        ensures { λ r. ⌜ Does capacity (now (line .entry)) self (now (pool .entry)) (now (scratch .entry)) r (now (pool .exit)) (now (scratch .exit)) ⌝ }
+        requires { ⌜ Says (now line) Input × Room limit self (now pool) (now scratch) ⌝ }
+        ensures { λ r. ⌜ Does limit (now (line .entry)) self (now (pool .entry)) (now (scratch .entry)) r (now (pool .exit)) (now (scratch .exit)) ⌝ }
     {
         let index = small_at(line, 3);
+        let i = index.value;
         let v = admit(
             self.phase,
             INPUTS,
             &self.table.indices,
             self.table.stored,
-            index.value,
+            i,
         );
         if v != limits::ACCEPTED {
             return self.refuse(v);
@@ -87,7 +102,7 @@ impl State {
             reached: false,
             products: self.products,
         };
-        self.store(index.value, n, gain, pool, scratch, capacity)
+        self.store(i, n, gain, pool, scratch, limit)
     }
 
     // goal polynomial
@@ -122,29 +137,17 @@ impl State {
     }
 
     // lin index polynomial pairs
-    pub fn step_lin(
-        self,
-        line: &[u8],
-        pool: &mut [u64],
-        scratch: &mut [u64],
-        capacity: usize,
-    ) -> Step
-        requires { ⌜ Says (now line) Lin × Room capacity self (now pool) (now scratch) ⌝ }
-        ensures { λ r. ⌜ Does capacity (now (line .entry)) self (now (pool .entry)) (now (scratch .entry)) r (now (pool .exit)) (now (scratch .exit)) ⌝ }
+    pub fn step_lin(self, line: &[u8], pool: &mut [u64], scratch: &mut [u64], limit: usize) -> Step
+        requires { ⌜ Says (now line) Lin × Room limit self (now pool) (now scratch) ⌝ }
+        ensures { λ r. ⌜ Does limit (now (line .entry)) self (now (pool .entry)) (now (scratch .entry)) r (now (pool .exit)) (now (scratch .exit)) ⌝ }
     {
         let index = small_at(line, 4);
-        let v = admit(
-            self.phase,
-            STEPS,
-            &self.table.indices,
-            self.table.stored,
-            index.value,
-        );
+        let i = index.value;
+        let v = admit(self.phase, STEPS, &self.table.indices, self.table.stored, i);
         if v != limits::ACCEPTED {
             return self.refuse(v);
         }
         let f = regions::read_reduced(line, index.end + 1, scratch, regions::STATED, self.ring);
-        let n = f.terms;
         let sum = add_up(
             &self.table.indices,
             &self.table.starts,
@@ -154,7 +157,7 @@ impl State {
             f.end,
             pool,
             scratch,
-            n,
+            f.terms,
             self.ring,
             self.seen,
         );
@@ -163,32 +166,21 @@ impl State {
         }
         let factors = sum.seen;
         let gain = Gain {
-            seen: seen_with(scratch, regions::STATED, n, factors),
-            reached: reaches(self.reached, scratch, n, self.goal_terms),
+            seen: seen_with(scratch, regions::STATED, f.terms, factors),
+            reached: reaches(self.reached, scratch, f.terms, self.goal_terms),
             products: self.products + sum.terms as u64,
         };
-        self.store(index.value, n, gain, pool, scratch, capacity)
+        self.store(i, f.terms, gain, pool, scratch, limit)
     }
 
     // ext index variable polynomial
-    pub fn step_ext(
-        self,
-        line: &[u8],
-        pool: &mut [u64],
-        scratch: &mut [u64],
-        capacity: usize,
-    ) -> Step
-        requires { ⌜ Says (now line) Ext × Room capacity self (now pool) (now scratch) ⌝ }
-        ensures { λ r. ⌜ Does capacity (now (line .entry)) self (now (pool .entry)) (now (scratch .entry)) r (now (pool .exit)) (now (scratch .exit)) ⌝ }
+    pub fn step_ext(self, line: &[u8], pool: &mut [u64], scratch: &mut [u64], limit: usize) -> Step
+        requires { ⌜ Says (now line) Ext × Room limit self (now pool) (now scratch) ⌝ }
+        ensures { λ r. ⌜ Does limit (now (line .entry)) self (now (pool .entry)) (now (scratch .entry)) r (now (pool .exit)) (now (scratch .exit)) ⌝ }
     {
         let index = small_at(line, 4);
-        let v = admit(
-            self.phase,
-            STEPS,
-            &self.table.indices,
-            self.table.stored,
-            index.value,
-        );
+        let i = index.value;
+        let v = admit(self.phase, STEPS, &self.table.indices, self.table.stored, i);
         if v != limits::ACCEPTED {
             return self.refuse(v);
         }
@@ -205,6 +197,6 @@ impl State {
             reached: reaches(self.reached, scratch, made.terms, self.goal_terms),
             products: self.products + (n * n) as u64,
         };
-        self.store(index.value, made.terms, gain, pool, scratch, capacity)
+        self.store(i, made.terms, gain, pool, scratch, limit)
     }
 }

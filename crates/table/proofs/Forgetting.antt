@@ -1,5 +1,5 @@
 -- Closing the gap over the columns and the pool: the rest is packed again, and its entries are those of before without one. Assumes nothing.
-use mathlib.Core.Path.{_≡_, sym, ap, ap₂, _∙_}
+use mathlib.Core.Path.{_≡_, sym, ap, ap₂, subst, _∙_}
 use mathlib.Core.Logic.{⊎-elim}
 use mathlib.Core.List.{List}
 use Prim.Native.Nat.{ℕ, zero, suc, _+_, _-_, _*_, _≤_, _<_}
@@ -12,20 +12,21 @@ use borrow.Author.Tests.{leb-true, leb-false}
 use Rattle.words.specs.Parts.{part, Within}
 use Rattle.words.proofs.Parts.{paste-within}
 use Rattle.ground.proofs.Tests.{split}
-use Rattle.limits.specs.Limits.{termWords}
+use Rattle.limits.specs.Limits.{fieldTerms, termWords}
 use Rattle.algebra.specs.Polynomial.{Poly}
 use Rattle.terms.specs.Terms.{decode}
 use Rattle.terms.proofs.Decode.{decode-same}
 use Rattle.paper.specs.Rules.{Store, remove}
-use Rattle.table.specs.Table.{firsts, polyAt, entryAt, termsBefore, PackedColumns}
-use Rattle.table.specs.Steps.{Closed, FirstAt}
+use Rattle.table.specs.declared.Table.{Table}
+use Rattle.table.specs.Table.{firsts, polyAt, entryAt, termsBefore, PackedColumns, Packed}
+use Rattle.table.specs.Steps.{Closed, FirstAt, Forgotten}
 use Rattle.table.proofs.Firsts.{firsts-split, firsts-cut, behind, stored-none, remove-split}
 use Rattle.table.proofs.Moving.{moved-part}
 use Rattle.table.proofs.Packing.{before-more, before-same, ends-before, ends-used}
 use Rattle.table.proofs.Laws.{poly-kept}
 
 -- the words of the pool once the j-th polynomial is gone
-abbrev closedPool : List ℕ → ℕ → ℕ → ℕ → List ℕ
+abbrev pub closedPool : List ℕ → ℕ → ℕ → ℕ → List ℕ
 closedPool pool start count used =
     paste pool (start * termWords) (drop (start * termWords + count * termWords) pool) (used * termWords - (start * termWords + count * termWords))
 
@@ -65,8 +66,8 @@ module _ (is ss cs pool js ts ds : List ℕ) (j n used : ℕ) (p : PackedColumns
       let v = p .begins j h in
       (omega arith, omega arith)
 
-  pub left-packed : PackedColumns ts ds (n - 1) (used - count)
-  left-packed = record { few = omega (arith, p .few); begins = begins; ends = ends }
+  left-packed : PackedColumns ts ds (n - 1) (used - count)
+  left-packed = record { few = omega (arith, p .few); begins = begins; ends = ends; short = short }
     where
       begins : (k : ℕ) → k < n - 1 → getD ts k 0 ≡ termsBefore ds k
       begins k l =
@@ -83,6 +84,11 @@ module _ (is ss cs pool js ts ds : List ℕ) (j n used : ℕ) (p : PackedColumns
           let e : n - 1 + 1 ≡ n = omega arith in
           let q : termsBefore ds (n - 1) + count ≡ termsBefore cs n = rw e at (sums-behind cs ds j n h cd (n - 1) (omega arith) (omega arith)) in
           omega (arith, p .ends)
+
+      short : (k : ℕ) → k < n - 1 → getD ds k 0 ≤ fieldTerms
+      short k l =
+          ⊎-elim (λ t. omega (arith, cd .behind k (leb-true j k t) (omega arith), p .short (k + 1) (omega arith)))
+          (λ t. omega (arith, cd .before k (leb-false j k t), p .short k (omega arith))) (split (leb j k))
 
   -- the polynomials before the gap
   poly-before : (k : ℕ) → k < j → polyAt ts ds left k ≡ polyAt ss cs pool k
@@ -111,7 +117,7 @@ module _ (is ss cs pool js ts ds : List ℕ) (j n used : ℕ) (p : PackedColumns
       ∙ decode-same (getD cs (k + 1) 0) (drop (getD ts k 0 * termWords + count * termWords) pool) (drop (getD ts k 0 * termWords) left) q
       ∙ ap (λ (b : ℕ). decode (getD cs (k + 1) 0) (drop b pool)) e
 
-  pub left-store : (x : ℕ) → FirstAt is n x j → firsts (entryAt js ts ds left) (n - 1) ≡ remove (firsts (entryAt is ss cs pool) n) x
+  left-store : (x : ℕ) → FirstAt is n x j → firsts (entryAt js ts ds left) (n - 1) ≡ remove (firsts (entryAt is ss cs pool) n) x
   left-store x f =
       firsts-cut (entryAt is ss cs pool) (entryAt js ts ds left) j n h before after
       ∙ sym (ap (λ (s : Store). remove s x) (firsts-split (entryAt is ss cs pool) j n h)
@@ -123,3 +129,21 @@ module _ (is ss cs pool js ts ds : List ℕ) (j n used : ℕ) (p : PackedColumns
 
       after : (k : ℕ) → j ≤ k → k + 1 < n → entryAt js ts ds left k ≡ entryAt is ss cs pool (k + 1)
       after k l m = ap₂ (λ (i : ℕ) (q : Poly). record { index = i; poly = q }) (ci .behind k l m ∙ sub-zero _) (poly-behind k l m)
+
+-- a table whose three columns and whose pool are closed over the j-th polynomial, count terms from term start on
+pub forgotten : (s : Table) (pool js ts ds left : List ℕ) (j start count : ℕ) → Packed s → j < s .stored → s .used * termWords ≤ length pool
+    → start ≡ getD (s .starts) j 0 → count ≡ getD (s .counts) j 0
+    → Closed (s .indices) j (s .stored) 0 js → Closed (s .starts) j (s .stored) count ts → Closed (s .counts) j (s .stored) 0 ds
+    → left ≡ closedPool pool start count (s .used)
+    → Forgotten s pool j (record { indices = js; starts = ts; counts = ds; stored = s .stored - 1; used = s .used - count }) left
+forgotten s pool js ts ds left j start count p h room es ec ci ct cd e =
+    let cf : Closed (s .starts) j (s .stored) (getD (s .counts) j 0) ts = subst (λ (x : ℕ). Closed (s .starts) j (s .stored) x ts) ec ct in
+    let el : left ≡ closedPool pool (getD (s .starts) j 0) (getD (s .counts) j 0) (s .used) = e ∙ ap₂ (λ (a c : ℕ). closedPool pool a c (s .used)) es ec in
+    record {
+      store = λ x f. ap (λ (l : List ℕ). firsts (entryAt js ts ds l) (s .stored - 1)) el
+          ∙ left-store (s .indices) (s .starts) (s .counts) pool js ts ds j (s .stored) (s .used) p h room ci cf cd x f;
+      packed = subst (λ (x : ℕ). PackedColumns ts ds (s .stored - 1) (s .used - x)) (sym ec)
+          (left-packed (s .indices) (s .starts) (s .counts) pool js ts ds j (s .stored) (s .used) p h room ci cf cd);
+      stored = omega arith;
+      used = omega (arith, ends-used (s .starts) (s .counts) (s .stored) (s .used) j p h);
+    }

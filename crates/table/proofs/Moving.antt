@@ -53,20 +53,20 @@ moved-part d at len used b m h k l =
 pub closed-none : (a : List ℕ) (j fall : ℕ) → Closed a j (j + 1) fall a
 closed-none a j fall = record { before = λ k l. refl; behind = λ k h l. absurd (let z : ⊥ = omega arith in z) }
 
-module _ (a r : List ℕ) (j k fall : ℕ) (h : j ≤ k) (inside : k < length r) (closed : Closed a j (k + 1) fall r)
+module _ (a r : List ℕ) (j k fall v : ℕ) (h : j ≤ k) (inside : k < length r) (closed : Closed a j (k + 1) fall r)
     (rest : (i : ℕ) → k ≤ i → getD r i 0 ≡ getD a i 0) where
-  pub closed-more : Closed a j (k + 1 + 1) fall (set r k (getD r (k + 1) 0 - fall))
-  closed-more = record { before = before; behind = behind }
+  pub closed-more : v ≡ getD r (k + 1) 0 - fall → Closed a j (k + 1 + 1) fall (set r k v)
+  closed-more e = record { before = before; behind = behind }
     where
-      before : (i : ℕ) → i < j → getD (set r k (getD r (k + 1) 0 - fall)) i 0 ≡ getD a i 0
-      before i l = getD-set-other r k i (getD r (k + 1) 0 - fall) 0 (λ e. omega arith) ∙ closed .before i l
+      before : (i : ℕ) → i < j → getD (set r k v) i 0 ≡ getD a i 0
+      before i l = getD-set-other r k i v 0 (λ e. omega arith) ∙ closed .before i l
 
-      behind : (i : ℕ) → j ≤ i → i + 1 < k + 1 + 1 → getD (set r k (getD r (k + 1) 0 - fall)) i 0 ≡ getD a (i + 1) 0 - fall
+      behind : (i : ℕ) → j ≤ i → i + 1 < k + 1 + 1 → getD (set r k v) i 0 ≡ getD a (i + 1) 0 - fall
       behind i b l =
           ⊎-elim
-          (λ e. rw e (getD-set-same r k (getD r (k + 1) 0 - fall) 0 inside ∙ ap (λ (x : ℕ). x - fall) (rest (k + 1) (omega arith))))
-          (λ (u : i < k). getD-set-other r k i (getD r (k + 1) 0 - fall) 0 (λ e. omega arith) ∙ closed .behind i b (omega arith))
+          (λ e₂. rw e₂ (getD-set-same r k v 0 inside ∙ e ∙ ap (λ (x : ℕ). x - fall) (rest (k + 1) (omega arith))))
+          (λ (u : i < k). getD-set-other r k i v 0 (λ e. omega arith) ∙ closed .behind i b (omega arith))
           (eq-or-lt-of-le (let m : i ≤ k = omega arith in m))
 
-  pub closed-rest : (v i : ℕ) → k + 1 ≤ i → getD (set r k v) i 0 ≡ getD a i 0
-  closed-rest v i l = getD-set-other r k i v 0 (λ e. omega arith) ∙ rest i (omega arith)
+  pub closed-rest : (i : ℕ) → k + 1 ≤ i → getD (set r k v) i 0 ≡ getD a i 0
+  closed-rest i l = getD-set-other r k i v 0 (λ e. omega arith) ∙ rest i (omega arith)

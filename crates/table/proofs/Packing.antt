@@ -2,12 +2,14 @@
 use mathlib.Core.Path.{_≡_, refl, subst}
 use mathlib.Core.Logic.{⊎-elim}
 use mathlib.Core.List.{List}
-use Prim.Native.Nat.{ℕ, zero, suc, _+_, _≤_, _<_}
+use Prim.Native.Nat.{ℕ, zero, suc, _+_, _*_, _≤_, _<_}
 use native.Mathlib.Numerals.{add-one}
 use native.Mathlib.Nat.{eq-or-lt-of-le, le-of-suc-le-suc, not-suc-le-zero}
 use native.Mathlib.Omega.{arith}
 use lib.ListN.{getD}
+use Rattle.limits.specs.Limits.{storedPolynomials, fieldTerms}
 use Rattle.table.specs.Table.{termsBefore, PackedColumns}
+use Rattle.table.specs.Steps.{Closable}
 
 pub before-more : (cs : List ℕ) (j : ℕ) → termsBefore cs (j + 1) ≡ termsBefore cs j + getD cs j 0
 unfolding termsBefore
@@ -30,6 +32,22 @@ ends-before cs j (suc k) h =
 pub ends-used : (ss cs : List ℕ) (n used j : ℕ) → PackedColumns ss cs n used → j < n → getD ss j 0 + getD cs j 0 ≤ used
 ends-used ss cs n used j p h = omega (arith, p .begins j h, ends-before cs j n h)
 
+-- the terms of n polynomials, none longer than a field
+before-short : (cs : List ℕ) (n : ℕ) → ((k : ℕ) → k < n → getD cs k 0 ≤ fieldTerms) → termsBefore cs n ≤ n * fieldTerms
+unfolding termsBefore
+before-short cs zero h = omega arith
+before-short cs (suc n) h = omega (arith, before-short cs n (λ k l. h k (omega arith)), h n (omega arith))
+
+pub used-short : (ss cs : List ℕ) (n used : ℕ) → PackedColumns ss cs n used → used ≤ n * fieldTerms
+used-short ss cs n used p = omega (arith, p .ends, before-short cs n (p .short))
+
 -- one starts no earlier than one before it is long
 pub later-starts : (ss cs : List ℕ) (n used j k : ℕ) → PackedColumns ss cs n used → j < k → k < n → getD cs j 0 ≤ getD ss k 0
 later-starts ss cs n used j k p l m = omega (arith, p .begins k m, ends-before cs j k l)
+
+-- ---- a column may be closed: with nothing to lower, and one of starts over a polynomial of count terms
+pub closable-none : (column : List ℕ) (j n : ℕ) → j < n → n ≤ storedPolynomials → Closable column j n 0
+closable-none column j n h f = record { inside = h; few = f; least = λ k l m. omega arith }
+
+pub closable-starts : (ss cs : List ℕ) (n used j count : ℕ) → PackedColumns ss cs n used → j < n → count ≡ getD cs j 0 → Closable ss j n count
+closable-starts ss cs n used j count p h e = record { inside = h; few = p .few; least = λ k l m. omega (arith, later-starts ss cs n used j k p l m) }

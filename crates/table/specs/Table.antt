@@ -3,7 +3,7 @@ use mathlib.Core.Path.{_≡_}
 use mathlib.Core.List.{List, [], _∷_, _++_}
 use Prim.Native.Nat.{ℕ, zero, suc, _+_, _*_, _≤_, _<_}
 use lib.ListN.{length, drop, getD}
-use Rattle.limits.specs.Limits.{storedPolynomials, termWords, mostPoolTerms}
+use Rattle.limits.specs.Limits.{storedPolynomials, fieldTerms, termWords, mostPoolTerms}
 use Rattle.algebra.specs.Polynomial.{Poly}
 use Rattle.words.specs.Words.{number}
 use Rattle.terms.specs.Terms.{decode}
@@ -31,11 +31,12 @@ unfoldable pub termsBefore : List ℕ → ℕ → ℕ
 termsBefore counts zero = 0
 termsBefore counts (suc n) = termsBefore counts n + getD counts n 0
 
--- each polynomial starts where the one before it ends, and the last ends at used
+-- each polynomial starts where the one before it ends, the last ends at used, and none is longer than a field
 pub record PackedColumns (starts counts : List ℕ) (stored used : ℕ) : Type 0 where
   pub few : stored ≤ storedPolynomials
   pub begins : (j : ℕ) → j < stored → getD starts j 0 ≡ termsBefore counts j
   pub ends : used ≡ termsBefore counts stored
+  pub short : (j : ℕ) → j < stored → getD counts j 0 ≤ fieldTerms
 
 abbrev pub Packed : Table → Type 0
 Packed s = PackedColumns (s .starts) (s .counts) (s .stored) (s .used)

@@ -1,17 +1,19 @@
 // The table of the stored polynomials, whose terms lie one behind the other in the pool.
 ghost use mathlib.Core.Path.{_≡_};
 ghost use Prim.Native.Nat.{_+_, _-_, _≤_, _<_};
-ghost use lib.ListN.{length, drop, replicate};
+ghost use lib.ListN.{length, drop, getD, set, replicate};
 ghost use lib.Seq.{paste};
-ghost use Rattle.limits.specs.Limits.{storedPolynomials, mostPoolTerms};
-ghost use Rattle.table.specs.Table.{Packed, Fitting};
-ghost use Rattle.table.specs.Steps.{Finds, Closable, Closed, Fresh, Pushed, Forgotten};
+ghost use Rattle.limits.specs.Limits.{storedPolynomials};
+ghost use Rattle.table.specs.Steps.{Absent, amongEight, Finds, Closable, Closed, Fresh};
 
-pub type Column = [u32; limits::STORED_POLYNOMIALS];
+pub type Indices = [u32; limits::STORED_POLYNOMIALS];
+
+// Of starts or of counts: all stored polynomials together have fewer than 2 ^ 16 terms.
+pub type Column = [u16; limits::STORED_POLYNOMIALS];
 
 pub struct Table {
     // Of each stored polynomial, the oldest first: its index, the term of the pool where it starts, how many terms it has.
-    pub indices: Column,
+    pub indices: Indices,
     pub starts: Column,
     pub counts: Column,
     // How many polynomials are stored, and how many terms of the pool they use.
@@ -36,53 +38,44 @@ impl Table {
             used: 0,
         }
     }
-
-    // Stores under index the polynomial whose terms stand behind the used ones.
-    pub fn push(mut self, index: u32, terms: usize) -> Table
-        requires { ⌜ Packed self × (self .stored < storedPolynomials) × (self .used + terms ≤ mostPoolTerms) ⌝ }
-        ensures { λ r. ⌜ Pushed self index terms r ⌝ }
-    {
-        let at = self.stored;
-        let used = self.used;
-        self.indices[at] = index;
-        self.starts[at] = used as u32;
-        self.counts[at] = terms as u32;
-        self.stored = at + 1;
-        self.used = used + terms;
-        self
-    }
-
-    // Forgets the j-th polynomial, and closes the gap over the columns and the pool.
-    pub fn forget(mut self, pool: &mut [u64], j: usize) -> Table
-        requires { ⌜ Fitting self (now pool) (self .used) × (j < self .stored) ⌝ }
-        ensures { λ r. ⌜ Forgotten self (now (pool .entry)) j r (now (pool .exit)) ⌝ }
-    {
-        let n = self.stored;
-        let used = self.used;
-        let at = self.starts[j] as usize;
-        let fall = self.counts[j];
-        let len = fall as usize;
-        close_gap(
-            pool,
-            at * limits::TERM_WORDS,
-            len * limits::TERM_WORDS,
-            used * limits::TERM_WORDS,
-        );
-        close(&mut self.indices, j, n, 0);
-        close(&mut self.starts, j, n, fall);
-        close(&mut self.counts, j, n, 0);
-        self.stored = n - 1;
-        self.used = used - len;
-        self
-    }
 }
 
-// The first place of x among the first n numbers of a column.
-pub fn find(column: &Column, n: usize, x: u32) -> Found
+// Whether x is one of the eight indices from j on.
+fn among(column: &Indices, j: usize, x: u32) -> bool
+    requires { ⌜ j + 8 ≤ storedPolynomials ⌝ }
+    ensures { λ r. ⌜ r ≡ amongEight (now (column .entry)) j x ⌝ }
+{
+    (column[j] == x)
+        | (column[j + 1] == x)
+        | (column[j + 2] == x)
+        | (column[j + 3] == x)
+        | (column[j + 4] == x)
+        | (column[j + 5] == x)
+        | (column[j + 6] == x)
+        | (column[j + 7] == x)
+}
+
+// A place of the indices before which x does not stand, at most n: it passes over eight of them at a time.
+fn skip(column: &Indices, n: usize, x: u32) -> usize
+    requires { ⌜ n ≤ storedPolynomials ⌝ }
+    ensures { λ r. ⌜ (r ≤ n) × Absent (now (column .entry)) r x ⌝ }
+{
+    let mut j = 0;
+    while j + 8 <= n {
+        if among(column, j, x) {
+            return j;
+        }
+        j += 8;
+    }
+    j
+}
+
+// The first place of x among the first n indices.
+pub fn find(column: &Indices, n: usize, x: u32) -> Found
     requires { ⌜ n ≤ storedPolynomials ⌝ }
     ensures { λ r. ⌜ Finds (now (column .entry)) n x r ⌝ }
 {
-    let mut j = 0;
+    let mut j = skip(column, n, x);
     while j < n {
         if column[j] == x {
             return Found::At(j);
@@ -92,21 +85,51 @@ pub fn find(column: &Column, n: usize, x: u32) -> Found
     Found::Nothing
 }
 
-// Of the first n numbers of a column, moves those behind j one place down and lowers each by fall.
-// The length is asked for because a proof does not see it through a reference.
-fn close(column: &mut Column, j: usize, n: usize, fall: u32)
-    requires { ⌜ (length (now column) ≡ storedPolynomials) × Closable (now column) j n fall ⌝ }
-    ensures { λ _. ⌜ Closed (now (column .entry)) j n fall (now (column .exit)) ⌝ }
+// Puts x into a column.
+pub fn put(column: &mut Column, at: usize, x: u16)
+    requires { ⌜ at < storedPolynomials ⌝ }
+    ensures { λ _. ⌜ now (column .exit) ≡ set (now (column .entry)) at x ⌝ }
 {
+    column[at] = x;
+}
+
+// Puts x among the indices.
+pub fn put_index(column: &mut Indices, at: usize, x: u32)
+    requires { ⌜ at < storedPolynomials ⌝ }
+    ensures { λ _. ⌜ now (column .exit) ≡ set (now (column .entry)) at x ⌝ }
+{
+    column[at] = x;
+}
+
+// Takes the j-th of the first n numbers out of a column: those behind it move one place down, each lowered by fall.
+// The length is asked for because a proof does not see it through a reference.
+pub fn close(column: &mut Column, j: usize, n: usize, fall: u16) -> u16
+    requires { ⌜ (length (now column) ≡ storedPolynomials) × Closable (now column) j n fall ⌝ }
+    ensures { λ r. ⌜ (r ≡ getD (now (column .entry)) j 0) × Closed (now (column .entry)) j n fall (now (column .exit)) ⌝ }
+{
+    let gone = column[j];
     let mut k = j;
     while k + 1 < n {
         column[k] = column[k + 1] - fall;
         k += 1;
     }
+    gone
+}
+
+// Takes the j-th of the first n indices out: those behind it move one place down.
+pub fn close_indices(column: &mut Indices, j: usize, n: usize)
+    requires { ⌜ (length (now column) ≡ storedPolynomials) × (j < n) × (n ≤ storedPolynomials) ⌝ }
+    ensures { λ _. ⌜ Closed (now (column .entry)) j n 0 (now (column .exit)) ⌝ }
+{
+    let mut k = j;
+    while k + 1 < n {
+        column[k] = column[k + 1];
+        k += 1;
+    }
 }
 
 // Moves the words from at + len up to used down to at.
-fn close_gap(pool: &mut [u64], at: usize, len: usize, used: usize)
+pub fn close_gap(pool: &mut [u64], at: usize, len: usize, used: usize)
     requires { ⌜ (at + len ≤ used) × (used ≤ length (now pool)) ⌝ }
     ensures { λ _. ⌜ now (pool .exit) ≡ paste (now (pool .entry)) at (drop (at + len) (now (pool .entry))) (used - (at + len)) ⌝ }
 {

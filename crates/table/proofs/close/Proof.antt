@@ -12,15 +12,21 @@ use Rattle.table.proofs.close.Statement.{statement}
 use Rattle.table.proofs.close.Tie as tie
 
 abbrev Inv-loop : tie.InvT-loop
-Inv-loop column₀ j n fall k₀ column k =
+Inv-loop column₀ j n fall gone k₀ column k =
     (j ≤ k) × (k + 1 ≤ n) × (length column ≡ storedPolynomials) × Closed column₀ j (k + 1) fall column
     × ((i : ℕ) → k ≤ i → getD column i 0 ≡ getD column₀ i 0)
 
 abbrev μ-loop : tie.MeasureT-loop
-μ-loop column₀ j n fall k₀ column k = n - k
+μ-loop column₀ j n fall gone k₀ column k = n - k
+
+mul-gone : tie.Need-mul-gone Inv-loop μ-loop
+mul-gone c = search needs
+
+element-copy-out-gone : tie.Need-element-copy-out-gone Inv-loop μ-loop
+element-copy-out-gone c = search needs
 
 loop-holds : tie.Need-loop-holds Inv-loop μ-loop
-loop-holds c = (search needs, search needs, search needs, closed-none (c .args .column .now) (c .args .j) (c .args .fall), λ i h. refl)
+loop-holds c = (search needs, search needs, search needs, closed-none (c .before .args .column .now) (c .before .args .j) (c .before .args .fall), λ i h. refl)
 
 add-loop : tie.Need-add-loop Inv-loop μ-loop
 add-loop c = search needs
@@ -38,7 +44,7 @@ sub-column : tie.Need-sub-column Inv-loop μ-loop
 sub-column c =
     let loop = c .before .before .loop in
     let k : ℕ = loop .k in
-    omega (arith, loop .inv .4 (k + 1) (omega arith), c .before .before .before .pre .1 .least (k + 1) (omega arith) (omega arith))
+    omega (arith, loop .inv .4 (k + 1) (omega arith), c .before .before .before .before .pre .1 .least (k + 1) (omega arith) (omega arith))
 
 mul-column-2 : tie.Need-mul-column-2 Inv-loop μ-loop
 mul-column-2 c = search needs
@@ -55,20 +61,20 @@ loop-less c = search needs
 loop-again : tie.Need-loop-again Inv-loop μ-loop
 loop-again c =
     let loop = c .before .before .loop in
-    let args = c .before .before .before .args in
+    let args = c .before .before .before .before .args in
     let inside : loop .k < length (loop .column) = omega arith in (
       omega arith,
       omega arith,
       search needs,
-      closed-more (args .column .now) (loop .column) (args .j) (loop .k) (args .fall) (loop .inv .0) inside (loop .inv .3) (loop .inv .4),
-      closed-rest (args .column .now) (loop .column) (args .j) (loop .k) (args .fall) (loop .inv .0) inside (loop .inv .3) (loop .inv .4) _,
+      closed-more (args .column .now) (loop .column) (args .j) (loop .k) (args .fall) _ (loop .inv .0) inside (loop .inv .3) (loop .inv .4) refl,
+      closed-rest (args .column .now) (loop .column) (args .j) (loop .k) (args .fall) _ (loop .inv .0) inside (loop .inv .3) (loop .inv .4),
     )
 
 returns : tie.Need-returns Inv-loop μ-loop
 returns c =
     let loop = c .before .loop in
-    let e : loop .k + 1 ≡ c .before .before .args .n = omega arith in
-    rw e at (loop .inv .3)
+    let e : loop .k + 1 ≡ c .before .before .before .args .n = omega arith in
+    (refl, rw e at (loop .inv .3))
 
 pub close-spec : {M : Type 1} → statement M
 close-spec =
@@ -76,6 +82,8 @@ close-spec =
     (tie.spec
     Inv-loop
     μ-loop
+    mul-gone
+    element-copy-out-gone
     loop-holds
     add-loop
     add-column

@@ -3,7 +3,7 @@
 use mathlib.Core.Path.{_≡_}
 use Prim.Native.Nat.{_≤_, _-_}
 use native.Mathlib.Omega.{arith}
-use borrow.Author.Count.{below-none, below-more}
+use borrow.Author.Count.{below-more}
 use borrow.Author.Needs.{needs}
 use Rattle.table.specs.Steps.{Absent}
 use Rattle.table.proofs.find.Statement.{statement}
@@ -15,8 +15,11 @@ Inv-loop column n x j₀ j = (j ≤ n) × Absent column j x
 abbrev μ-loop : tie.MeasureT-loop
 μ-loop column n x j₀ j = n - j
 
+skip-requires : tie.Need-skip-requires Inv-loop μ-loop
+skip-requires c κs = search needs
+
 loop-holds : tie.Need-loop-holds Inv-loop μ-loop
-loop-holds c = (omega arith, record { nowhere = below-none _ })
+loop-holds c = c .skip .ensures
 
 mul-if1 : tie.Need-mul-if1 Inv-loop μ-loop
 mul-if1 c = search needs
@@ -41,7 +44,7 @@ loop-again c =
 returns-2 : tie.Need-returns-2 Inv-loop μ-loop
 returns-2 c =
     let loop = c .before .loop in
-    let e : loop .j ≡ c .before .before .args .n = omega arith in
+    let e : loop .j ≡ c .before .before .before .args .n = omega arith in
     rw e at (loop .inv .1)
 
 pub find-spec : {M : Type 1} → statement M
@@ -50,6 +53,7 @@ find-spec =
     (tie.spec
     Inv-loop
     μ-loop
+    skip-requires
     loop-holds
     mul-if1
     element-copy-out-if1

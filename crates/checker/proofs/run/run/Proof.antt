@@ -83,8 +83,8 @@ returns c =
       scratch-length = d .judge-line .ensures .scratch-length ∙ o .2;
     }
 
-add-next : tie.Need-add-next Inv-loop μ-loop
-add-next c =
+add-state : tie.Need-add-state Inv-loop μ-loop
+add-state c =
     let d = c .before .before .before .before .before .before .before in
     let w = d .before .before .before .before in
     let o = w .before .before .loop .inv in
@@ -149,7 +149,7 @@ run-spec =
     same-length
     same-length-2
     returns
-    add-next
+    add-state
     add-at
     loop-less
     loop-again

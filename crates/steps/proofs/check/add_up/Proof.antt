@@ -17,7 +17,7 @@ refusal-requires c κs = search needs
 returns : tie.Need-returns
 returns c =
     let a = c .before .before .before .before .before .before .args in
-    λ qs p. sums-missing (a .k) (firsts (entryAt (a .indices .now) (a .starts .now) (a .counts .now) (a .pool .now)) (a .stored)) qs (a .n) (a .seen) (a .scratch .now) (c .before .before .all-stored .ensures qs p (a .starts .now) (a .counts .now) (a .pool .now)) (not-true (c .before .before .all-stored .result) (c .before .if1 .taken)) (c .refusal .ensures)
+    λ qs p. sums-missing (a .k) (firsts (entryAt (a .indices .now) (a .starts .now) (a .counts .now) (a .pool .now)) (a .n)) qs (a .stated) (a .seen) (a .scratch .now) (c .before .before .all-stored .ensures qs p (a .starts .now) (a .counts .now) (a .pool .now)) (not-true (c .before .before .all-stored .result) (c .before .if1 .taken)) (c .refusal .ensures)
 
 sum-pairs-requires : tie.Need-sum-pairs-requires
 sum-pairs-requires c κs =
@@ -38,7 +38,7 @@ returns-2 c =
     let b = c .before .before .before .before .before .before .before .before .before .before .before in
     let a = b .args in
     let s = c .before .before .before .before .sum-pairs in
-    λ qs p. sums-many (a .k) (firsts (entryAt (a .indices .now) (a .starts .now) (a .counts .now) (a .pool .now)) (a .stored)) qs (a .n) (a .seen) (a .scratch .now) (c .before .before .before .before .before .before .before .all-stored .ensures qs p (a .starts .now) (a .counts .now) (a .pool .now)) (not-false (c .before .before .before .before .before .before .before .all-stored .result) (c .before .before .before .before .before .before .if1 .left)) (b .pre .2) (s .last .1 .1 .1 .1 .1 .1 .1 .0) (s .result) (s .ensures qs p) (c .before .if2 .taken) (c .refusal2 .ensures)
+    λ qs p. sums-many (a .k) (firsts (entryAt (a .indices .now) (a .starts .now) (a .counts .now) (a .pool .now)) (a .n)) qs (a .stated) (a .seen) (a .scratch .now) (c .before .before .before .before .before .before .before .all-stored .ensures qs p (a .starts .now) (a .counts .now) (a .pool .now)) (not-false (c .before .before .before .before .before .before .before .all-stored .result) (c .before .before .before .before .before .before .if1 .left)) (b .pre .2) (s .last .1 .1 .1 .1 .1 .1 .1 .0) (s .result) (s .ensures qs p) (c .before .if2 .taken) (c .refusal2 .ensures)
 
 is-reduced-requires : tie.Need-is-reduced-requires
 is-reduced-requires c κs =
@@ -59,7 +59,7 @@ returns-3 c =
     let a = b .args in
     let s = c .before .before .before .before .before .before .before .before .before .sum-pairs in
     let r = c .before .before .before .before .is-reduced in
-    λ qs p. sums-differ (a .k) (firsts (entryAt (a .indices .now) (a .starts .now) (a .counts .now) (a .pool .now)) (a .stored)) qs (a .n) (a .seen) (a .scratch .now) (c .before .before .before .before .before .before .before .before .before .before .before .before .all-stored .ensures qs p (a .starts .now) (a .counts .now) (a .pool .now)) (not-false (c .before .before .before .before .before .before .before .before .before .before .before .before .all-stored .result) (c .before .before .before .before .before .before .before .before .before .before .before .if1 .left)) (b .pre .2) (s .last .1 .1 .1 .1 .1 .1 .1 .0) (s .result) (s .ensures qs p) (c .before .before .before .before .before .before .if2 .left)
+    λ qs p. sums-differ (a .k) (firsts (entryAt (a .indices .now) (a .starts .now) (a .counts .now) (a .pool .now)) (a .n)) qs (a .stated) (a .seen) (a .scratch .now) (c .before .before .before .before .before .before .before .before .before .before .before .before .all-stored .ensures qs p (a .starts .now) (a .counts .now) (a .pool .now)) (not-false (c .before .before .before .before .before .before .before .before .before .before .before .before .all-stored .result) (c .before .before .before .before .before .before .before .before .before .before .before .if1 .left)) (b .pre .2) (s .last .1 .1 .1 .1 .1 .1 .1 .0) (s .result) (s .ensures qs p) (c .before .before .before .before .before .before .if2 .left)
     (b .pre .5) (r .last .0) (r .ensures .1) (r .ensures .0) (not-true (r .result) (c .before .if3 .taken)) (c .refusal3 .ensures)
 
 same-length-3 : tie.Need-same-length-3
@@ -71,7 +71,7 @@ returns-4 c =
     let a = b .args in
     let s = c .before .before .before .before .before .before .before .before .before .sum-pairs in
     let r = c .before .before .before .before .is-reduced in
-    λ qs p. sums-all (a .k) (firsts (entryAt (a .indices .now) (a .starts .now) (a .counts .now) (a .pool .now)) (a .stored)) qs (a .n) (a .seen) (a .scratch .now) (c .before .before .before .before .before .before .before .before .before .before .before .before .all-stored .ensures qs p (a .starts .now) (a .counts .now) (a .pool .now)) (not-false (c .before .before .before .before .before .before .before .before .before .before .before .before .all-stored .result) (c .before .before .before .before .before .before .before .before .before .before .before .if1 .left)) (b .pre .2) (s .last .1 .1 .1 .1 .1 .1 .1 .0) (s .result) (s .ensures qs p) (c .before .before .before .before .before .before .if2 .left)
+    λ qs p. sums-all (a .k) (firsts (entryAt (a .indices .now) (a .starts .now) (a .counts .now) (a .pool .now)) (a .n)) qs (a .stated) (a .seen) (a .scratch .now) (c .before .before .before .before .before .before .before .before .before .before .before .before .all-stored .ensures qs p (a .starts .now) (a .counts .now) (a .pool .now)) (not-false (c .before .before .before .before .before .before .before .before .before .before .before .before .all-stored .result) (c .before .before .before .before .before .before .before .before .before .before .before .if1 .left)) (b .pre .2) (s .last .1 .1 .1 .1 .1 .1 .1 .0) (s .result) (s .ensures qs p) (c .before .before .before .before .before .before .if2 .left)
     (b .pre .5) (r .last .0) (r .ensures .1) (r .ensures .0) (not-false (r .result) (c .before .if3 .left))
 
 pub add-up-spec : {M : Type 1} → statement M

@@ -75,14 +75,14 @@ reaches-requires c κs =
     let m = c .before .before .before .before .before .before .extend .ensures in
     (m .few (c .before .before .if2 .left), o .aim, omega (arith, o .room, m .same, c .before .before .before .before .before .before .before .before .before .before .before .before .read-reduced .ensures .within .same))
 
-mul-t31 : tie.Need-mul-t31
-mul-t31 c =
+mul-t32 : tie.Need-mul-t32
+mul-t32 c =
     let f = c .before .before .before .before .before .before .before .before .before .before .before .before .before .read-reduced .ensures .few in
     let m = mul-le-mul f f in
     omega arith
 
-add-t33 : tie.Need-add-t33
-add-t33 c =
+add-t34 : tie.Need-add-t34
+add-t34 c =
     let b = c .before .before .before .before .before .before .before .before .before .before .before .before .before .before .before .before .before .before .before .before .before .before .before .before .before .before in
     let f = c .before .before .before .before .before .before .before .before .before .before .before .before .before .read-reduced .ensures .few in
     let m = mul-le-mul f f in
@@ -125,8 +125,8 @@ step-ext-spec =
     same-length
     returns-2
     reaches-requires
-    mul-t31
-    add-t33
+    mul-t32
+    add-t34
     store-requires
     same-length-2
     same-length-3

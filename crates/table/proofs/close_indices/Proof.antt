@@ -1,0 +1,84 @@
+-- `table::close_indices` meets its contract. The loop's invariant: below k the column is closed, and from k on as it was.
+-- The measure is the count of numbers left. Assumes nothing.
+use mathlib.Core.Path.{_≡_, refl, sym}
+use Prim.Native.Nat.{ℕ, _+_, _-_, _≤_, _<_}
+use native.Mathlib.Nat.{sub-zero}
+use native.Mathlib.Omega.{arith}
+use lib.ListN.{length, getD}
+use borrow.Author.Needs.{needs}
+use Rattle.limits.specs.Limits.{storedPolynomials}
+use Rattle.table.specs.Steps.{Closed}
+use Rattle.table.proofs.Moving.{closed-none, closed-more, closed-rest}
+use Rattle.table.proofs.close_indices.Statement.{statement}
+use Rattle.table.proofs.close_indices.Tie as tie
+
+abbrev Inv-loop : tie.InvT-loop
+Inv-loop column₀ j n k₀ column k =
+    (j ≤ k) × (k + 1 ≤ n) × (length column ≡ storedPolynomials) × Closed column₀ j (k + 1) 0 column
+    × ((i : ℕ) → k ≤ i → getD column i 0 ≡ getD column₀ i 0)
+
+abbrev μ-loop : tie.MeasureT-loop
+μ-loop column₀ j n k₀ column k = n - k
+
+loop-holds : tie.Need-loop-holds Inv-loop μ-loop
+loop-holds c = (search needs, search needs, search needs, closed-none (c .args .column .now) (c .args .j) 0, λ i h. refl)
+
+add-loop : tie.Need-add-loop Inv-loop μ-loop
+add-loop c = search needs
+
+add-column : tie.Need-add-column Inv-loop μ-loop
+add-column c = search needs
+
+mul-column : tie.Need-mul-column Inv-loop μ-loop
+mul-column c = search needs
+
+element-copy-out-column : tie.Need-element-copy-out-column Inv-loop μ-loop
+element-copy-out-column c = search needs
+
+mul-column-2 : tie.Need-mul-column-2 Inv-loop μ-loop
+mul-column-2 c = search needs
+
+element-write-column : tie.Need-element-write-column Inv-loop μ-loop
+element-write-column c = search needs
+
+add-k : tie.Need-add-k Inv-loop μ-loop
+add-k c = search needs
+
+loop-less : tie.Need-loop-less Inv-loop μ-loop
+loop-less c = search needs
+
+loop-again : tie.Need-loop-again Inv-loop μ-loop
+loop-again c =
+    let loop = c .before .before .loop in
+    let args = c .before .before .before .args in
+    let inside : loop .k < length (loop .column) = omega arith in (
+      omega arith,
+      omega arith,
+      search needs,
+      closed-more (args .column .now) (loop .column) (args .j) (loop .k) 0 _ (loop .inv .0) inside (loop .inv .3) (loop .inv .4) (sym (sub-zero _)),
+      closed-rest (args .column .now) (loop .column) (args .j) (loop .k) 0 _ (loop .inv .0) inside (loop .inv .3) (loop .inv .4),
+    )
+
+returns : tie.Need-returns Inv-loop μ-loop
+returns c =
+    let loop = c .before .loop in
+    let e : loop .k + 1 ≡ c .before .before .args .n = omega arith in
+    rw e at (loop .inv .3)
+
+pub close-indices-spec : {M : Type 1} → statement M
+close-indices-spec =
+    tie.close
+    (tie.spec
+    Inv-loop
+    μ-loop
+    loop-holds
+    add-loop
+    add-column
+    mul-column
+    element-copy-out-column
+    mul-column-2
+    element-write-column
+    add-k
+    loop-less
+    loop-again
+    returns)

@@ -1,0 +1,58 @@
+-- `table::skip` meets its contract. The loop's invariant: x is none of the first j numbers.
+-- The measure is the count of numbers left. Assumes nothing.
+use mathlib.Core.Path.{_≡_, sym, _∙_}
+use Prim.Native.Nat.{_≤_, _-_}
+use native.Mathlib.Omega.{arith}
+use borrow.Author.Count.{below-none}
+use borrow.Author.Needs.{needs}
+use Rattle.table.specs.Steps.{Absent}
+use Rattle.table.proofs.Searching.{absent-eight}
+use Rattle.table.proofs.skip.Statement.{statement}
+use Rattle.table.proofs.skip.Tie as tie
+
+abbrev Inv-loop : tie.InvT-loop
+Inv-loop column n x j₀ j = (j ≤ n) × Absent column j x
+
+abbrev μ-loop : tie.MeasureT-loop
+μ-loop column n x j₀ j = n - j
+
+loop-holds : tie.Need-loop-holds Inv-loop μ-loop
+loop-holds c = (omega arith, record { nowhere = below-none _ })
+
+add-loop : tie.Need-add-loop Inv-loop μ-loop
+add-loop c = search needs
+
+among-requires : tie.Need-among-requires Inv-loop μ-loop
+among-requires c κs = search needs
+
+returns : tie.Need-returns Inv-loop μ-loop
+returns c = search needs
+
+add-j : tie.Need-add-j Inv-loop μ-loop
+add-j c = search needs
+
+loop-less : tie.Need-loop-less Inv-loop μ-loop
+loop-less c = search needs
+
+loop-again : tie.Need-loop-again Inv-loop μ-loop
+loop-again c =
+    let loop = c .before .before .before .loop in
+    (omega arith, absent-eight _ _ _ (loop .inv .1) (sym (c .before .among .ensures) ∙ c .if1 .left))
+
+returns-2 : tie.Need-returns-2 Inv-loop μ-loop
+returns-2 c = search needs
+
+pub skip-spec : {M : Type 1} → statement M
+skip-spec =
+    tie.close
+    (tie.spec
+    Inv-loop
+    μ-loop
+    loop-holds
+    add-loop
+    among-requires
+    returns
+    add-j
+    loop-less
+    loop-again
+    returns-2)
