@@ -1,7 +1,7 @@
 -- Products of a run with another, appended term by term of the first to the front of the scratch. Assumes nothing.
-use mathlib.Core.Path.{_≡_, refl, sym, ap, subst, _∙_}
-use mathlib.Core.List.{List, [], _∷_, _++_, append-nil, append-assoc}
-use Prim.Native.Nat.{ℕ, _+_, _*_, _%_, _^_, _≤_, _<_}
+use mathlib.Core.Path.{_≡_, sym, ap, subst, _∙_}
+use mathlib.Core.List.{List, [], _∷_, _++_, append-assoc}
+use Prim.Native.Nat.{ℕ, _+_, _*_, _≤_, _<_}
 use native.Mathlib.Nat.{mul-le-mul-right}
 use native.Mathlib.Omega.{arith}
 use lib.ListN.{length, take, drop, take-append-drop}
@@ -9,21 +9,11 @@ use lib.Seq.{length-take-le, length-front, take-append-le, drop-append-le, take-
 use Rattle.words.specs.Parts.{part}
 use Rattle.words.proofs.Parts.{within-trans, within-wider, above-kept}
 use Rattle.limits.specs.Limits.{termWords}
-use Rattle.algebra.specs.Polynomial.{Term, Poly, times, products}
+use Rattle.algebra.specs.Polynomial.{Poly, times, products}
 use Rattle.terms.specs.Terms.{termOf, decode, rounded, Appended}
 use Rattle.terms.proofs.Decode.{decode-last, decode-same, decode-part}
 use Rattle.terms.proofs.Products.{appended-start}
-
--- ---- products of one term more
-pub rounded-append : (p q : Poly) → rounded (p ++ q) ≡ rounded p ++ rounded q
-unfolding rounded
-rounded-append [] q = refl
-rounded-append (t ∷ p) q = ap (λ (r : Poly). record { set = t .set; coef = t .coef % 2 ^ 64 } ∷ r) (rounded-append p q)
-
-products-snoc : (p : Poly) (t : Term) (q : Poly) → products (p ++ (t ∷ [])) q ≡ products p q ++ times t q
-unfolding products
-products-snoc [] t q = append-nil (times t q)
-products-snoc (u ∷ p) t q = ap (λ (r : Poly). times u q ++ r) (products-snoc p t q) ∙ sym (append-assoc (times u q) (products p q) (times t q))
+use Rattle.regions.proofs.Squares.{rounded-append, products-last}
 
 -- one row more of m each
 pub row-more : (i m : ℕ) → (i + 1) * m ≡ i * m + m
@@ -84,4 +74,4 @@ module _ (n at m : ℕ) (b s : List ℕ) where
 
       more : rounded (products (decode (i + 1) (drop at s)) (decode m b)) ≡ rounded (products (decode i (drop at s)) (decode m b)) ++ rounded (times (termOf u) (decode m b))
       more = ap (λ (p : Poly). rounded (products p (decode m b))) (decode-last i (drop at s) ∙ ap (λ (y : List ℕ). decode i (drop at s) ++ (termOf y ∷ [])) (sym next))
-          ∙ ap rounded (products-snoc (decode i (drop at s)) (termOf u) (decode m b)) ∙ rounded-append (products (decode i (drop at s)) (decode m b)) (times (termOf u) (decode m b))
+          ∙ ap rounded (products-last (decode i (drop at s)) (decode m b) (termOf u)) ∙ rounded-append (products (decode i (drop at s)) (decode m b)) (times (termOf u) (decode m b))

@@ -21,10 +21,11 @@ use Rattle.paper.specs.Rules.{Store, stored, find, combination}
 use Rattle.reader.proofs.Fields.{same-end}
 use Rattle.fields.proofs.Taking.{same-value}
 use Rattle.regions.specs.Regions.{statedAt, factorAt}
+use Rattle.regions.proofs.Squares.{rounded-append}
+use Rattle.pairs.specs.declared.Sum.{Sum}
 use Rattle.pairs.specs.declared.Added.{Added}
 use Rattle.pairs.specs.Pairs.{PairsAt, StoredPairs, productsOf, Summed, Kept, PairAdded}
 use Rattle.pairs.proofs.Walking.{Next, next-pair, pairs-end, same-pairs}
-use Rattle.pairs.proofs.Multiplying.{rounded-append}
 use Rattle.pairs.proofs.Adding.{kept-refl, kept-trans}
 
 -- the stated region in terms
@@ -70,7 +71,7 @@ module _ (k : ℕ) (store : Store) where
     pub done-stored : StoredPairs store line i
     done-stored = record { pairs = d .left; reads = d .reads; all = d .stand }
 
-    pub done-end : (seen : List ℕ) → number seen ≡ all → length line ≤ i → (qs : List Pair) → PairsAt line at qs
+    done-end : (seen : List ℕ) → number seen ≡ all → length line ≤ i → (qs : List Pair) → PairsAt line at qs
         → Summed k named qs earlier s x (record { over = false; terms = terms; seen = seen })
     unfolding productsOf combination total rounded allVars
     done-end seen e h qs w =
@@ -93,6 +94,12 @@ module _ (k : ℕ) (store : Store) where
       where
         no : false ≡ true → ⊥
         no t = let z : _≡_ {A = ℕ} 0 1 = cc in omega arith
+
+    -- of a sum that is not over
+    pub done-last : (sum : Sum) → sum .over ≡ false → sum .terms ≡ terms → number (sum .seen) ≡ all → length line ≤ i → (qs : List Pair) → PairsAt line at qs
+        → Summed k named qs earlier s x sum
+    done-last sum o t e h qs w =
+        subst (Summed k named qs earlier s x) (λ j. record { over = sym o j; terms = sym t j; seen = sum .seen }) (done-end (sum .seen) e h qs w)
 
     module _ (h : i < length line) (r : List ℕ) (a : Added) (p : PairAdded k named line i terms all x r a) where
       next : Next line i (d .left)

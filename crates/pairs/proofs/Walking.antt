@@ -23,7 +23,7 @@ use Rattle.reader.specs.Search.{EndsField, WholeField}
 use Rattle.reader.proofs.Fields.{placed, same-end}
 use Rattle.fields.specs.Fields.{Good, isWord, isField}
 use Rattle.fields.proofs.Taking.{same-value, same-rest, not-both}
-use Rattle.pairs.specs.Pairs.{PairsAt}
+use Rattle.pairs.specs.Pairs.{isSmall, PairsAt}
 
 -- ---- a pair taken apart
 pub record PairParts (s : Bytes) (at : ℕ) (q : Pair) (e : ℕ) : Type 0 where
@@ -134,10 +134,26 @@ module _ (s : Bytes) (at : ℕ) (qs : List Pair) (w : PairsAt s at qs) where
 pub same-pairs : {s : Bytes} {at : ℕ} {qs rs : List Pair} → PairsAt s at qs → PairsAt s at rs → qs ≡ rs
 same-pairs w v = same-value (w .reads) (v .reads)
 
+-- ---- numbers that half a word holds
+pub small-index : (i : ℕ) → isIndex i ≡ true → isSmall i ≡ true
+unfolding isIndex isSmall
+small-index i e = and-right (leb 1 i) (leb i greatestIndex) e
+
+is-small : (n : ℕ) → isSmall n ≡ true → n ≤ greatestIndex
+unfolding isSmall
+is-small n e = leb-true n greatestIndex e
+
+pub small-word : (n : ℕ) → isSmall n ≡ true → isWord n ≡ true
+unfolding isWord
+small-word n e = let l = is-small n e in lt-ltb n (2 ^ 64) (omega arith)
+
+pub small-got : {s : Bytes} {at n e : ℕ} → Good decimal isSmall s at → Got decimal s at n e → n ≤ greatestIndex
+small-got {n = n} g t = let e : g .value ≡ n = same-value (g .reads) (t .reads) in omega (arith, is-small (g .value) (g .passes))
+
 -- ---- what the readers of an index and of a factor ask for
 module _ (s : Bytes) (at : ℕ) (qs : List Pair) (n : Next s at qs) where
-  pub index-good : Good decimal isIndex s (at + 1)
-  index-good = let p = n .parts in record { value = n .head .index; rest = drop (p .middle) s; reads = p .index .reads; passes = n .isIndex; inside = omega (arith, p .index .onward, p .index .inside) }
+  pub index-good : Good decimal isSmall s (at + 1)
+  index-good = let p = n .parts in record { value = n .head .index; rest = drop (p .middle) s; reads = p .index .reads; passes = small-index (n .head .index) (n .isIndex); inside = omega (arith, p .index .onward, p .index .inside) }
 
   module _ (i m : ℕ) (g : Got decimal s (at + 1) i m) where
     pub index-same : i ≡ n .head .index
@@ -164,11 +180,3 @@ module _ (s : Bytes) (at : ℕ) (qs : List Pair) (n : Next s at qs) where
 
       pub end-same : n .end ≡ e
       end-same = same-end polynomial s (m + 1) factor-here t .1
-
-pub index-word : (i : ℕ) → isIndex i ≡ true → i < 4294967296
-unfolding isIndex
-index-word i e = let h = leb-true i greatestIndex (and-right (leb 1 i) (leb i greatestIndex) e) in omega arith
-
-pub index-is-word : (i : ℕ) → isIndex i ≡ true → isWord i ≡ true
-unfolding isWord
-index-is-word i e = let h = index-word i e in lt-ltb i (2 ^ 64) (omega arith)

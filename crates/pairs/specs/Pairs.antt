@@ -1,18 +1,19 @@
 -- The pairs of a lin line: which polynomials they name, and the sum of factor times named polynomial.
 use mathlib.Core.Path.{_≡_}
-use mathlib.Core.Bool.{true, false}
+use mathlib.Core.Bool.{Bool, true, false}
 use mathlib.Core.List.{List, [], _++_, map}
 use Prim.Native.Nat.{ℕ, _+_, _-_, _*_, _≤_, _<_}
 use lib.Bits.{bitOr}
+use lib.Dec.{leb}
 use lib.ListN.{length, drop, getD}
 use Rattle.ground.specs.Lists.{every, total}
 use Rattle.words.specs.Parts.{part}
-use Rattle.limits.specs.Limits.{storedPolynomials, lineProducts, termWords, mostPoolTerms}
+use Rattle.limits.specs.Limits.{greatestIndex, storedPolynomials, lineProducts, termWords, mostPoolTerms}
 use Rattle.algebra.specs.Polynomial.{Poly, products, vars, allVars}
 use Rattle.words.specs.Words.{number}
 use Rattle.terms.specs.Terms.{decode, rounded}
 use Rattle.paper.specs.Grammar.{Bytes, got, decimal, pair}
-use Rattle.paper.specs.Statement.{Pair, isIndex, reduced}
+use Rattle.paper.specs.Statement.{Pair, reduced}
 use Rattle.paper.specs.Rules.{Store, stored, combination}
 use Rattle.reader.specs.Places.{Got}
 use Rattle.reader.specs.Lines.{morePairs, pairRanged, pairFew}
@@ -23,6 +24,10 @@ use Rattle.regions.specs.Regions.{statedAt, factorAt, goalAt}
 use Rattle.pairs.specs.declared.Sum.{Sum}
 use Rattle.pairs.specs.declared.Added.{Added}
 use Rattle.pairs.specs.declared.Place.{Place}
+
+-- a number that half a word holds: every index, ring and variable is one
+unfoldable pub isSmall : ℕ → Bool
+isSmall n = leb n greatestIndex
 
 -- the pairs from the tab at `at` to the end of the line, in range and short
 pub record PairsAt (line : Bytes) (at : ℕ) (qs : List Pair) : Type 0 where
@@ -59,7 +64,7 @@ pub record Summed (k : ℕ) (named : ℕ → Poly) (qs : List Pair) (earlier : �
 -- ---- one pair
 -- the index at `at` is one of the first n
 pub record Names (indices : List ℕ) (n : ℕ) (line : Bytes) (at : ℕ) : Type 0 where
-  pub good : Good decimal isIndex line at
+  pub good : Good decimal isSmall line at
   pub present : (x e : ℕ) → Got decimal line at x e → Absent indices n x → ⊥
 
 -- the index at `at` stands first at a place of the first n

@@ -8,14 +8,14 @@ ghost use Rattle.limits.specs.Limits.{storedPolynomials, fieldTerms, lineProduc
 ghost use Rattle.algebra.specs.Polynomial.{products};
 ghost use Rattle.words.specs.Words.{number};
 ghost use Rattle.terms.specs.Terms.{decode, rounded, Appended};
-ghost use Rattle.paper.specs.Statement.{Pair, isIndex};
+ghost use Rattle.paper.specs.Statement.{Pair};
 ghost use Rattle.paper.specs.Rules.{stored, find};
 ghost use Rattle.paper.specs.Grammar.{decimal};
 ghost use Rattle.reader.specs.Places.{Got};
 ghost use Rattle.fields.specs.Fields.{Good};
 ghost use Rattle.table.specs.Table.{polyAt, firsts, entryAt};
 ghost use Rattle.regions.specs.Regions.{factorAt, goalAt};
-ghost use Rattle.pairs.specs.Pairs.{PairsAt, StoredPairs, PoolHolds, Summed, Names, PlaceOf, Lies, Extended, PairAdded};
+ghost use Rattle.pairs.specs.Pairs.{isSmall, PairsAt, StoredPairs, PoolHolds, Summed, Names, PlaceOf, Lies, Extended, PairAdded};
 use reader::number::Decimal;
 use table::Column;
 use table::Found;
@@ -35,8 +35,8 @@ pub struct Added {
     pub end: usize,
 }
 
-// An index and its end.
-pub struct Index {
+// A number that half a word holds, and its end.
+pub struct Small {
     pub value: u32,
     pub end: usize,
 }
@@ -47,16 +47,16 @@ pub struct Place {
     pub end: usize,
 }
 
-// The index at at.
-fn take_index(line: &[u8], at: usize) -> Index
-    requires { ⌜ Good decimal isIndex (now line) at ⌝ }
+// The number at at: an index, a ring or a variable.
+pub fn small_at(line: &[u8], at: usize) -> Small
+    requires { ⌜ Good decimal isSmall (now line) at ⌝ }
     ensures { λ r. ⌜ Got decimal (now (line .entry)) at (r .value) (r .end) ⌝ }
 {
     let d = reader::number::decimal_at(line, at);
     let Decimal::Value(value, end) = d else {
-        return Index { value: 0, end: at };
+        return Small { value: 0, end: at };
     };
-    Index {
+    Small {
         value: value as u32,
         end,
     }
@@ -72,7 +72,7 @@ pub fn all_stored(indices: &Indices, n: usize, line: &[u8], at: usize) -> bool
 {
     let mut i = at;
     while i < line.len() {
-        let x = take_index(line, i + 1);
+        let x = small_at(line, i + 1);
         let f = table::find(indices, n, x.value);
         let Found::At(_) = f else {
             return false;
@@ -105,7 +105,7 @@ fn place_of(indices: &Indices, n: usize, line: &[u8], at: usize) -> Place
     requires { ⌜ (n ≤ storedPolynomials) × Names (now indices) n (now line) at ⌝ }
     ensures { λ r. ⌜ PlaceOf (now (indices .entry)) n (now (line .entry)) at r ⌝ }
 {
-    let x = take_index(line, at);
+    let x = small_at(line, at);
     let f = table::find(indices, n, x.value);
     let Found::At(place) = f else {
         return Place { place: 0, end: at };
@@ -160,20 +160,32 @@ fn add_pair<'a>(
     pool: &[u64],
     scratch: &mut [u64],
     k: u32,
-    terms: usize,
-    seen: Set,
+    sum: Sum,
 ) -> Added
     requires { ⌜
         StoredPairs (firsts (entryAt (now indices) (now starts) (now counts) (now pool)) n) (now line) at
         × (at < length (now line)) × PoolHolds (now starts) (now counts) n (now pool)
-        × (leastScratch ≤ length (now scratch)) × (1 ≤ k) × (k ≤ 64) × (terms ≤ lineProducts)
+        × (leastScratch ≤ length (now scratch)) × (1 ≤ k) × (k ≤ 64) × (sum .terms ≤ lineProducts)
         ⌝ }
-    ensures { λ r. ⌜ PairAdded k (find (firsts (entryAt (now (indices .entry)) (now (starts .entry)) (now (counts .entry)) (now (pool .entry))) n)) (now (line .entry)) at terms (number seen) (now (scratch .entry)) (now (scratch .exit)) r ⌝ }
+    ensures { λ r. ⌜ PairAdded k (find (firsts (entryAt (now (indices .entry)) (now (starts .entry)) (now (counts .entry)) (now (pool .entry))) n)) (now (line .entry)) at (sum .terms) (number (sum .seen)) (now (scratch .entry)) (now (scratch .exit)) r ⌝ }
 {
     let p = place_of(indices, n, line, at + 1);
     let f = regions::read_reduced(line, p.end + 1, scratch, regions::FACTOR, k);
-    let sum = add_products(starts, counts, p.place, pool, scratch, f.terms, terms, seen);
-    Added { sum, end: f.end }
+    let seen = sum.seen;
+    let more = add_products(
+        starts,
+        counts,
+        p.place,
+        pool,
+        scratch,
+        f.terms,
+        sum.terms,
+        seen,
+    );
+    Added {
+        sum: more,
+        end: f.end,
+    }
 }
 
 // Writes the products of the pairs from the tab at at on from word 0 of the scratch on.
@@ -199,33 +211,19 @@ pub fn sum_pairs<'a>(
         → Summed k (find (firsts (entryAt (now (indices .entry)) (now (starts .entry)) (now (counts .entry)) (now (pool .entry))) n)) qs (number seen) (now (scratch .entry)) (now (scratch .exit)) r)
         ⌝ }
 {
-    let mut terms = 0;
-    let mut all = seen;
+    let mut sum = Sum {
+        over: false,
+        terms: 0,
+        seen,
+    };
     let mut i = at;
     while i < line.len() {
-        let a = add_pair(
-            indices,
-            starts,
-            counts,
-            n,
-            line,
-            i,
-            pool,
-            scratch,
-            k,
-            terms,
-            all,
-        );
-        if a.sum.over {
-            return a.sum;
+        let a = add_pair(indices, starts, counts, n, line, i, pool, scratch, k, sum);
+        sum = a.sum;
+        if sum.over {
+            return sum;
         }
-        terms = a.sum.terms;
-        all = a.sum.seen;
         i = a.end;
     }
-    Sum {
-        over: false,
-        terms,
-        seen: all,
-    }
+    sum
 }

@@ -4,14 +4,13 @@ use mathlib.Core.Bool.{Bool, true, false, _||_, or-assoc}
 use mathlib.Core.List.{List, [], _∷_, _++_}
 use Prim.Native.Nat.{ℕ, _+_, _-_, _*_, _≤_, _<_}
 use native.Mathlib.Omega.{arith}
-use lib.ListN.{length, take, drop, getD}
+use lib.ListN.{length, drop, getD}
 use Rattle.ground.specs.Lists.{any}
 use Rattle.words.specs.Parts.{part}
 use Rattle.words.proofs.Parts.{part-rest}
 use Rattle.limits.specs.Limits.{termWords}
 use Rattle.algebra.specs.Polynomial.{Poly, equal}
 use Rattle.terms.specs.Terms.{decode}
-use Rattle.terms.proofs.Decode.{decode-part}
 use Rattle.paper.specs.Rules.{Entry, Store, holdsGoal}
 use Rattle.table.specs.Table.{firsts, polyAt, entryAt, PackedColumns}
 use Rattle.table.proofs.Firsts.{behind, firsts-more, firsts-split}
@@ -24,10 +23,6 @@ rest-equal m a q s = ap (λ (w : List ℕ). equal (decode m w) q) (part-rest a s
 pub rests-equal : (m n a b : ℕ) (s : List ℕ)
     → equal (decode m (part a (length s - a) s)) (decode n (part b (length s - b) s)) ≡ equal (decode m (drop a s)) (decode n (drop b s))
 rests-equal m n a b s = ap₂ (λ (x y : List ℕ). equal (decode m x) (decode n y)) (part-rest a s) (part-rest b s)
-
--- a run before a, and one from a on
-pub front-equal : (m n a : ℕ) (s : List ℕ) → m * termWords ≤ a → equal (decode m (take a s)) (decode n (part a (length s - a) s)) ≡ equal (decode m s) (decode n (drop a s))
-front-equal m n a s h = ap₂ (λ (p : Poly) (w : List ℕ). equal p (decode n w)) (decode-part m 0 a s h) (part-rest a s)
 
 -- ---- the stored polynomials
 holds-append : (g : Poly) (s t : Store) → holdsGoal g (s ++ t) ≡ (holdsGoal g s || holdsGoal g t)

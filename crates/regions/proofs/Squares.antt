@@ -1,32 +1,32 @@
 -- The products of a run with itself, row by row. Assumes nothing.
 use mathlib.Core.Path.{_≡_, refl, sym, ap, ap₂, subst, _∙_}
+use mathlib.Core.Bool.{Bool}
 use mathlib.Core.List.{List, [], _∷_, _++_, append-nil, append-assoc}
 use mathlib.Core.Logic.{⊎-elim}
-use Prim.Native.Nat.{ℕ, _+_, _-_, _*_, _%_, _^_, _≤_, _<_}
+use Prim.Native.Nat.{ℕ, _+_, _*_, _%_, _^_, _≤_, _<_}
 use native.Mathlib.Nat.{zero-mul, suc-mul, add-mul, mul-le-mul-right, mul-le-mul}
 use native.Mathlib.Omega.{arith}
 use lib.Dec.{ltb}
-use lib.ListN.{length, take, drop}
+use lib.ListN.{take, drop}
 use lib.Seq.{drop-drop}
 use borrow.Author.Tests.{ltb-true, ltb-false}
-use borrow.Rule.Slice.PartMut.{putMid}
 use Rattle.words.specs.Parts.{part, Within}
 use Rattle.words.proofs.Parts.{within-refl, within-trans, within-wider, above-kept}
 use Rattle.ground.proofs.Tests.{split}
 use Rattle.limits.specs.Limits.{lineProducts, termWords}
 use Rattle.algebra.specs.Polynomial.{Term, Poly, times, products, equal, reduce, product}
 use Rattle.terms.specs.Terms.{termOf, decode, rounded, Leaves, Appended}
-use Rattle.terms.proofs.Decode.{decode-part, decode-last, decode-above}
+use Rattle.terms.proofs.Decode.{decode-last, decode-above}
+use Rattle.terms.proofs.Runs.{equal-swap}
 use Rattle.terms.proofs.Rounding.{reduce-rounded}
 use Rattle.regions.specs.Regions.{statedAt}
-use Rattle.regions.proofs.Reducing.{lent-run, lent-within}
 
-rounded-append : (p q : Poly) → rounded (p ++ q) ≡ rounded p ++ rounded q
+pub rounded-append : (p q : Poly) → rounded (p ++ q) ≡ rounded p ++ rounded q
 unfolding rounded
 rounded-append [] q = refl
 rounded-append (t ∷ p) q = ap (λ (r : Poly). record { set = t .set; coef = t .coef % 2 ^ 64 } ∷ r) (rounded-append p q)
 
-products-last : (p q : Poly) (t : Term) → products (p ++ (t ∷ [])) q ≡ products p q ++ times t q
+pub products-last : (p q : Poly) (t : Term) → products (p ++ (t ∷ [])) q ≡ products p q ++ times t q
 unfolding products
 products-last [] q t = append-nil (times t q)
 products-last (u ∷ p) q t = ap (λ (r : Poly). times u q ++ r) (products-last p q t) ∙ sym (append-assoc (times u q) (products p q) (times t q))
@@ -72,24 +72,14 @@ rows-more n i s x t r h l a et b = record {
 pub rows-end : (n i : ℕ) (s x : List ℕ) → i ≡ n → Rows n i s x → Rows n n s x
 rows-end n i s x e a = subst (λ (j : ℕ). Rows n j s x) e a
 
--- ---- the square reduced, before the stated region
-module _ (k n m : ℕ) (s x y : List ℕ) (h : k ≤ 64) (l : statedAt ≤ length s) (a : Rows n n s x)
-    (c : Leaves (n * n) (reduce k (decode (n * n) (part 0 (statedAt - 0) x))) (part 0 (statedAt - 0) x) y m) where
-  abbrev r : List ℕ
-  r = putMid 0 (statedAt - 0) x y
+-- ---- the square, reduced, compared with the stated region, as b tells
+module _ (k n : ℕ) (s x r : List ℕ) (a : Rows n n s x) where
+  pub square-within : Within 0 statedAt x r → Within 0 statedAt s r
+  square-within w = within-trans (a .within) w
 
-  long : statedAt ≤ length x
-  long = omega (arith, a .within .same)
-
-  room : n * n * termWords ≤ statedAt - 0
-  room = omega (arith, a .few)
-
-  pub square-within : Within 0 statedAt s r
-  square-within = within-trans (a .within) (lent-within 0 statedAt (n * n) m _ x y (omega arith) long room c)
-
-  pub square-equal : equal (decode m r) (decode n (drop statedAt r)) ≡ equal (product k (decode n (drop statedAt s)) (decode n (drop statedAt s))) (decode n (drop statedAt s))
+  pub square-equal : (b : Bool) → k ≤ 64 → b ≡ equal (decode n (drop statedAt x)) (reduce k (decode (n * n) x))
+      → b ≡ equal (product k (decode n (drop statedAt s)) (decode n (drop statedAt s))) (decode n (drop statedAt s))
   unfolding product
-  square-equal = ap₂ equal
-      (lent-run 0 statedAt (n * n) m _ x y (omega arith) long room c ∙ ap (reduce k) (decode-part (n * n) 0 (statedAt - 0) x room ∙ a .terms)
-      ∙ reduce-rounded k h [] (products (decode n (drop statedAt s)) (decode n (drop statedAt s))))
-      (decode-above n statedAt 0 statedAt s r square-within (omega arith))
+  square-equal b h e =
+      let p : Poly = decode n (drop statedAt s) in
+      e ∙ ap₂ equal (decode-above n statedAt 0 statedAt s x (a .within) (omega arith)) (ap (reduce k) (a .terms) ∙ reduce-rounded k h [] (products p p)) ∙ equal-swap p (product k p p)

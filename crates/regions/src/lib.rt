@@ -79,14 +79,6 @@ fn square(scratch: &mut [u64], n: usize)
     }
 }
 
-// Whether the m terms from word 0 on are the n terms of the stated region.
-fn is_stated(scratch: &[u64], m: usize, n: usize) -> bool
-    requires { ⌜ (m ≤ lineProducts) × (n * n ≤ lineProducts) × (leastScratch ≤ length (now scratch)) ⌝ }
-    ensures { λ r. ⌜ r ≡ equal (decode m (now (scratch .entry))) (decode n (drop statedAt (now (scratch .entry)))) ⌝ }
-{
-    terms::same_run(&scratch[..STATED], m, &scratch[STATED..], n)
-}
-
 // Whether the n terms of the stated region are their own square modulo 2 ^ k.
 pub fn is_bit(scratch: &mut [u64], n: usize, k: u32) -> bool
     requires { ⌜ (n * n ≤ lineProducts) × (leastScratch ≤ length (now scratch)) × (1 ≤ k) × (k ≤ 64) ⌝ }
@@ -94,8 +86,7 @@ pub fn is_bit(scratch: &mut [u64], n: usize, k: u32) -> bool
     ensures within { λ _. ⌜ Within 0 statedAt (now (scratch .entry)) (now (scratch .exit)) ⌝ }
 {
     square(scratch, n);
-    let m = terms::reduce(&mut scratch[..STATED], n * n, k);
-    is_stated(scratch, m, n)
+    terms::is_reduced(scratch, STATED, n, n * n, k)
 }
 
 // Makes -v + p of p, the n terms of the stated region, and gives how many terms it has.

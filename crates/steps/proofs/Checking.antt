@@ -2,43 +2,30 @@
 use mathlib.Core.Path.{_≡_, refl, sym, ap, ap₂, subst, _∙_}
 use mathlib.Core.Bool.{Bool, true, false, not, cond}
 use mathlib.Core.List.{List, [], map}
-use Prim.Native.Nat.{ℕ, _-_, _*_, _^_, _≤_, _<_}
+use Prim.Native.Nat.{ℕ, _*_, _^_, _≤_, _<_}
 use native.Mathlib.Omega.{arith}
 use lib.Bits.{bitOr}
 use lib.ListN.{length, drop}
 use borrow.Author.Tests.{lt-ltb, le-ltb}
-use borrow.Rule.Slice.PartMut.{putMid}
 use Rattle.ground.specs.Lists.{every}
-use Rattle.words.specs.Parts.{part, Within}
+use Rattle.words.specs.Parts.{Within}
 use Rattle.words.proofs.Parts.{drop-more}
 use Rattle.limits.specs.Limits.{greatestRing, fieldTerms, lineProducts}
 use Rattle.limits.specs.Verdicts.{MISSING, SEEN, PRODUCTS, MISMATCH, NOTBIT}
 use Rattle.algebra.specs.Polynomial.{has, vars, equal, reduce, product, extension}
 use Rattle.algebra.proofs.Unions.{or-assoc}
 use Rattle.words.specs.Words.{number}
-use Rattle.terms.specs.Terms.{decode, Leaves}
-use Rattle.terms.proofs.Decode.{decode-length, decode-part, decode-above}
+use Rattle.terms.specs.Terms.{decode}
+use Rattle.terms.proofs.Decode.{decode-length, decode-above}
 use Rattle.terms.proofs.Rounding.{reduce-rounded}
 use Rattle.paper.specs.Statement.{Pair}
 use Rattle.paper.specs.Rules.{Store, stored, find, combination}
 use Rattle.regions.specs.Regions.{statedAt, factorAt, goalAt, StatedIs}
-use Rattle.regions.proofs.Reducing.{lent-run, lent-within}
 use Rattle.pairs.specs.declared.Sum.{Sum}
 use Rattle.pairs.specs.Pairs.{productsOf, Summed}
 use Rattle.steps.specs.declared.check.Checked.{Checked}
 use Rattle.steps.specs.Parts.{sums, extends}
 use Rattle.steps.specs.Checks.{Extends, Sums}
-
--- the m terms before the stated region were reduced, and y came back
-module _ (k n m left : ℕ) (s y : List ℕ) (long : statedAt ≤ length s) (few : m ≤ lineProducts)
-    (c : Leaves m (reduce k (decode m (part 0 (statedAt - 0) s))) (part 0 (statedAt - 0) s) y left) where
-  pub front-within : Within 0 statedAt s (putMid 0 (statedAt - 0) s y)
-  front-within = lent-within 0 statedAt m left _ s y (omega arith) long (omega arith) c
-
-  pub front-reduced : equal (decode n (drop statedAt (putMid 0 (statedAt - 0) s y))) (decode left (putMid 0 (statedAt - 0) s y)) ≡ equal (decode n (drop statedAt s)) (reduce k (decode m s))
-  front-reduced = ap₂ equal
-      (decode-above n statedAt 0 statedAt s (putMid 0 (statedAt - 0) s y) front-within (omega arith))
-      (lent-run 0 statedAt m left _ s y (omega arith) long (omega arith) c ∙ ap (reduce k) (decode-part m 0 (statedAt - 0) s (omega arith)))
 
 -- ---- ext
 module _ (k v n : ℕ) (seen : List ℕ) (s : List ℕ) where

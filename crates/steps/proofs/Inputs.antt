@@ -15,7 +15,7 @@ use Rattle.words.specs.Words.{number}
 use Rattle.terms.specs.Terms.{decode}
 use Rattle.paper.specs.Grammar.{Bytes, decimal}
 use Rattle.paper.specs.Statement.{Written, goal, reduced}
-use Rattle.paper.specs.Rules.{modulo, inputs, steps, stored, holdsGoal, after}
+use Rattle.paper.specs.Rules.{modulo, inputs, steps, stored, holdsGoal}
 use Rattle.reader.specs.Places.{Got}
 use Rattle.reader.specs.declared.line.Kind.the-variants.{Input, Goal}
 use Rattle.fields.specs.declared.FieldRun.{FieldRun}

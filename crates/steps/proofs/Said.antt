@@ -3,11 +3,11 @@
 use mathlib.Core.Path.{_≡_, ap, subst, _∙_}
 use mathlib.Core.Bool.{Bool, true, false, _&&_, not}
 use mathlib.Core.List.{List, [], _∷_}
-use Prim.Native.Nat.{ℕ, _+_, _^_, _≤_, _<_}
+use Prim.Native.Nat.{ℕ, _+_, _≤_, _<_}
 use native.Mathlib.Omega.{arith}
 use lib.Dec.{leb}
 use lib.ListN.{length, drop, length-drop}
-use borrow.Author.Tests.{leb-true, le-leb, lt-ltb}
+use borrow.Author.Tests.{leb-true, le-leb}
 use Rattle.ground.specs.Lists.{every, any}
 use Rattle.ground.proofs.Tests.{and-left, and-right, and-both}
 use Rattle.limits.specs.Limits.{variables, greatestRing, greatestIndex}
@@ -20,11 +20,11 @@ use Rattle.reader.specs.declared.line.Kind.{Kind}
 use Rattle.reader.specs.declared.line.Kind.the-variants.{Ring, Input, Goal, Lin, Del, Ext}
 use Rattle.reader.proofs.Fields.{Tabbed, FieldsAt, fields-at}
 use Rattle.reader.proofs.Lines.{ranged-ring, ranged-input, ranged-goal, ranged-lin, ranged-del, ranged-ext, few-one, few-lin}
-use Rattle.fields.specs.Fields.{Good, isWord, isField}
-use Rattle.fields.proofs.Taking.{same-value, is-variable}
-use Rattle.pairs.specs.Pairs.{PairsAt}
+use Rattle.fields.specs.Fields.{Good, isField}
+use Rattle.fields.proofs.Taking.{is-variable}
+use Rattle.pairs.specs.Pairs.{isSmall, PairsAt}
+use Rattle.pairs.proofs.Walking.{small-index}
 use Rattle.steps.specs.Steps.{Says}
-use Rattle.steps.specs.Parts.{isSmall}
 
 -- ---- the statement of a line
 pub record Said (line : Bytes) (st : Statement) : Type 0 where
@@ -55,10 +55,6 @@ said {line} h =
     (by-kind (h .value) (record { reads = h .reads; ranged = h .ranged; short = h .short; places = fields-at line true (h .value) [] (h .reads) }))
 
 -- ---- tests of what is read
-small-index : (i : ℕ) → isIndex i ≡ true → isSmall i ≡ true
-unfolding isIndex isSmall
-small-index i e = and-right (leb 1 i) (leb i greatestIndex) e
-
 small-ring : (k : ℕ) → isRing k ≡ true → isSmall k ≡ true
 unfolding isRing isSmall
 small-ring k e = let l : k ≤ greatestRing = leb-true k greatestRing (and-right (leb 1 k) (leb k greatestRing) e) in le-leb k greatestIndex (omega arith)
@@ -66,17 +62,6 @@ small-ring k e = let l : k ≤ greatestRing = leb-true k greatestRing (and-right
 small-variable : (v : ℕ) → isVariable v ≡ true → isSmall v ≡ true
 unfolding isSmall
 small-variable v e = let l = is-variable v e in le-leb v greatestIndex (omega arith)
-
-is-small : (n : ℕ) → isSmall n ≡ true → n ≤ greatestIndex
-unfolding isSmall
-is-small n e = leb-true n greatestIndex e
-
-pub small-word : (n : ℕ) → isSmall n ≡ true → isWord n ≡ true
-unfolding isWord
-small-word n e = let l = is-small n e in lt-ltb n (2 ^ 64) (omega arith)
-
-pub small-got : {s : Bytes} {at n e : ℕ} → Good decimal isSmall s at → Got decimal s at n e → n ≤ greatestIndex
-small-got {n = n} g t = let e : g .value ≡ n = same-value (g .reads) (t .reads) in omega (arith, is-small (g .value) (g .passes))
 
 pub ring-range : (k : ℕ) → numbersInRange (ring k) ≡ true → (1 ≤ k) × (k ≤ greatestRing)
 unfolding isRing

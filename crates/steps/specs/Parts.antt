@@ -1,11 +1,11 @@
--- What the parts of a step say: a number of a line, the verdicts in their order, and a polynomial kept under an index.
+-- What the parts of a step say: the verdicts in their order, and a polynomial kept under an index.
 use mathlib.Core.Path.{_≡_}
 use mathlib.Core.Bool.{Bool, not, cond}
 use mathlib.Core.List.{List, [], _∷_, _++_}
 use Prim.Native.Nat.{ℕ, _≤_}
-use lib.Dec.{eqb, leb, ltb}
+use lib.Dec.{eqb, ltb}
 use lib.ListN.{length}
-use Rattle.limits.specs.Limits.{greatestIndex, fieldTerms, lineProducts, leastScratch}
+use Rattle.limits.specs.Limits.{fieldTerms, lineProducts, leastScratch}
 use Rattle.limits.specs.Verdicts.{ACCEPTED, ORDER, TAKEN, MISSING, SEEN, PRODUCTS, MISMATCH, NOTBIT, FULL}
 use Rattle.algebra.specs.Polynomial.{Poly}
 use Rattle.words.specs.Words.{number}
@@ -16,10 +16,6 @@ use Rattle.steps.specs.declared.state.State.{State}
 use Rattle.steps.specs.declared.state.Step.{Step}
 use Rattle.steps.specs.declared.state.Gain.{Gain}
 use Rattle.steps.specs.State.{stateOf}
-
--- a number that half a word holds: every index, ring and variable is one
-unfoldable pub isSmall : ℕ → Bool
-isSmall n = leb n greatestIndex
 
 -- ---- the verdicts in their order, before a later one
 -- in its phase, with an index that is taken or not

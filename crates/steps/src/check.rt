@@ -102,14 +102,6 @@ pub(crate) fn extend(scratch: &mut [u64], n: usize, v: usize, k: u32, seen: Set)
     }
 }
 
-// Whether the n terms from word a on are the m terms from word b on.
-fn same_runs(scratch: &[u64], a: usize, n: usize, b: usize, m: usize) -> bool
-    requires { ⌜ (a + n * termWords ≤ length (now scratch)) × (b + m * termWords ≤ length (now scratch)) ⌝ }
-    ensures { λ r. ⌜ r ≡ equal (decode n (drop a (now (scratch .entry)))) (decode m (drop b (now (scratch .entry)))) ⌝ }
-{
-    terms::same_run(&scratch[a..], n, &scratch[b..], m)
-}
-
 // Whether the n terms of the stated region are the m terms from word 0 on, reduced modulo 2 ^ k.
 fn is_reduced(scratch: &mut [u64], n: usize, m: usize, k: u32) -> bool
     requires { ⌜
@@ -119,8 +111,7 @@ fn is_reduced(scratch: &mut [u64], n: usize, m: usize, k: u32) -> bool
     ensures equals { λ r. ⌜ r ≡ equal (decode n (drop statedAt (now (scratch .entry)))) (reduce k (decode m (now (scratch .entry)))) ⌝ }
     ensures within { λ _. ⌜ Within 0 statedAt (now (scratch .entry)) (now (scratch .exit)) ⌝ }
 {
-    let left = terms::reduce(&mut scratch[..regions::STATED], m, k);
-    same_runs(scratch, regions::STATED, n, 0, left)
+    terms::is_reduced(scratch, regions::STATED, n, m, k)
 }
 
 // Whether the pairs from the tab at at on name stored polynomials and give the stated terms of the stated region.

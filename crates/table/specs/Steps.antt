@@ -7,7 +7,7 @@ use lib.Dec.{eqb}
 use lib.ListN.{drop, getD}
 use Rattle.limits.specs.Limits.{storedPolynomials, termWords}
 use Rattle.terms.specs.Terms.{decode}
-use Rattle.paper.specs.Rules.{remove, start}
+use Rattle.paper.specs.Rules.{remove}
 use Rattle.table.specs.declared.Found.{Found}
 use Rattle.table.specs.declared.Found.the-variants.{At, Nothing}
 use Rattle.table.specs.declared.Table.{Table}

@@ -5,7 +5,6 @@ use Prim.Native.Nat.{ℕ, zero, suc, _+_, _*_, _≤_, _<_}
 use lib.ListN.{length, drop, getD}
 use Rattle.limits.specs.Limits.{storedPolynomials, fieldTerms, termWords, mostPoolTerms}
 use Rattle.algebra.specs.Polynomial.{Poly}
-use Rattle.words.specs.Words.{number}
 use Rattle.terms.specs.Terms.{decode}
 use Rattle.paper.specs.Rules as paper
 use Rattle.paper.specs.Rules.{Entry, Store}

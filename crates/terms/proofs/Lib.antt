@@ -9,3 +9,5 @@ pub mod Comparing
 pub mod Merging
 pub mod Products
 pub mod Runs
+pub mod Places
+pub mod Gathering

@@ -5,17 +5,17 @@ use mathlib.Core.List.{List, [], _∷_, _++_, append-nil, append-assoc}
 use Prim.Native.Nat.{ℕ, _+_, _-_, _*_, _%_, _^_, _≤_, _<_}
 use native.Mathlib.Omega.{arith}
 use lib.Dec.{eqb}
-use lib.ListN.{length, getD, take}
+use lib.ListN.{length, getD, take, drop}
 use lib.Seq.{paste}
 use borrow.Author.Tests.{eq-eqb, ne-eqb}
-use Rattle.words.specs.Parts.{part}
+use Rattle.words.specs.Parts.{part, Within}
 use Rattle.words.proofs.Parts.{within-refl, within-trans, within-wider, above-kept}
 use Rattle.limits.specs.Limits.{setWords, termWords}
-use Rattle.algebra.specs.Polynomial.{Term, Poly, put, reduce}
+use Rattle.algebra.specs.Polynomial.{Term, Poly, equal, put, reduce}
 use Rattle.terms.specs.Terms.{termOf, decode, Leaves}
 use Rattle.terms.specs.Order.{Falls, none}
 use Rattle.terms.specs.Steps.{Sorted, settle}
-use Rattle.terms.proofs.Decode.{decode-length, decode-at, decode-take, decode-last, behind-within, decode-behind}
+use Rattle.terms.proofs.Decode.{decode-length, decode-at, decode-take, decode-last, decode-above, behind-within, decode-behind}
 use Rattle.terms.proofs.Settling.{reduce-order, reduce-more, settle-last}
 use Rattle.terms.proofs.Rounding.{put-word}
 
@@ -119,3 +119,11 @@ reduced k n m s x r a b = record {
   few = b .few;
   within = within-trans (a .arranged .within) (b .within);
 }
+
+-- reduced in place, then compared with the n terms at word `at`, as b tells
+module _ (k n m left at : ℕ) (s r : List ℕ) (h : m * termWords ≤ at) (a : Leaves m (reduce k (decode m s)) s r left) where
+  pub reduced-within : Within 0 at s r
+  reduced-within = within-wider 0 0 (m * termWords) at s r (omega arith) h (a .within)
+
+  pub reduced-same : (b : Bool) → b ≡ equal (decode n (drop at r)) (decode left r) → b ≡ equal (decode n (drop at s)) (reduce k (decode m s))
+  reduced-same b e = e ∙ ap₂ equal (decode-above n at 0 at s r reduced-within (omega arith)) (a .terms)

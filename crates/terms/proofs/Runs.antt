@@ -2,14 +2,17 @@
 use mathlib.Core.Path.{_≡_, refl, sym, ap, ap₂, subst, _∙_}
 use mathlib.Core.Bool.{Bool, true, false, _&&_}
 use mathlib.Core.List.{List, [], _∷_}
-use Prim.Native.Nat.{ℕ, suc, _+_, _*_, _≤_, _<_}
+use Prim.Native.Nat.{ℕ, suc, _+_, _-_, _*_, _≤_, _<_}
 use native.Mathlib.Omega.{arith}
 use native.Mathlib.Numerals.{add-one}
 use lib.Bits.{bitOr, or-zero-r}
 use lib.Dec.{eqb}
 use lib.ListN.{length, getD, drop, drop-of-length-le}
 use lib.Seq.{drop-cons}
+use borrow.Author.Tests.{eqb-true, eq-eqb}
 use Rattle.words.specs.Parts.{part}
+use Rattle.ground.proofs.Tests.{bool-ext}
+use Rattle.words.proofs.Parts.{part-rest}
 use Rattle.limits.specs.Limits.{setWords, termWords}
 use Rattle.algebra.specs.Polynomial.{Poly, equal, vars}
 use Rattle.algebra.proofs.Unions.{vars-append}
@@ -74,6 +77,23 @@ pub run-end : (m n i : ℕ) (a b : List ℕ) → m ≡ n → m ≤ i → equal (
 unfolding equal
 run-end m n i a b e h inv =
     sym (inv ∙ ap₂ equal (drop-of-length-le (decode m a) {i = i} (omega (arith, decode-length m a))) (drop-of-length-le (decode n b) {i = i} (omega (arith, decode-length n b))))
+
+-- which run comes first does not matter
+pub equal-swap : (p q : Poly) → equal p q ≡ equal q p
+unfolding equal
+equal-swap [] [] = refl
+equal-swap [] (t ∷ q) = refl
+equal-swap (s ∷ p) [] = refl
+equal-swap (s ∷ p) (t ∷ q) =
+    ap₂ _&&_ (ap₂ _&&_ (eqb-swap (s .set) (t .set)) (eqb-swap (s .coef) (t .coef))) (equal-swap p q)
+  where
+    eqb-swap : (x y : ℕ) → eqb x y ≡ eqb y x
+    eqb-swap x y = bool-ext (eqb x y) (eqb y x) (λ e. eq-eqb y x (sym (eqb-true x y e))) (λ e. eq-eqb x y (sym (eqb-true y x e)))
+
+-- a run in the rest of a slice, as r tells
+module _ (n at : ℕ) (s : List ℕ) (q : Poly) (r : Bool) where
+  pub rest-run : r ≡ equal (decode n (part at (length s - at) s)) q → r ≡ equal (decode n (drop at s)) q
+  rest-run e = e ∙ ap (λ (w : List ℕ). equal (decode n w) q) (part-rest at s)
 
 -- ---- the variables
 pub variables-start : (s : List ℕ) → 0 ≡ vars (decode 0 s)

@@ -1,3 +1,4 @@
 pub mod Terms
 pub mod Order
 pub mod Steps
+pub mod Places

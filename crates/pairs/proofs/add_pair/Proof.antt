@@ -29,9 +29,9 @@ read-reduced-requires c κs =
 
 add-products-requires : tie.Need-add-products-requires
 add-products-requires c κs =
-    let f = c .before .before .before .read-reduced in
-    let p = c .before .before .before .before .before .before .place-of in
-    let b = c .before .before .before .before .before .before .before .before .before .before in
+    let f = c .before .before .before .before .read-reduced in
+    let p = c .before .before .before .before .before .before .before .place-of in
+    let b = c .before .before .before .before .before .before .before .before .before .before .before in
     let a = b .args in
     (place-lies (a .starts .now) (a .counts .now) (a .pool .now) (a .n) (p .result .place) (b .pre .2) (p .ensures .first .inside), f .ensures .few, b .pre .6, omega (arith, b .pre .3, f .ensures .within .same))
 
@@ -41,11 +41,11 @@ same-length c = search needs
 returns : tie.Need-returns
 returns c =
     let m = c .before .before .add-products in
-    let f = c .before .before .before .before .before .before .read-reduced in
-    let p = c .before .before .before .before .before .before .before .before .before .place-of in
-    let b = c .before .before .before .before .before .before .before .before .before .before .before .before .before in
+    let f = c .before .before .before .before .before .before .before .read-reduced in
+    let p = c .before .before .before .before .before .before .before .before .before .before .place-of in
+    let b = c .before .before .before .before .before .before .before .before .before .before .before .before .before .before in
     let a = b .args in
-    pair-added (a .indices .now) (a .starts .now) (a .counts .now) (a .pool .now) (a .n) (a .line .now) (a .at) (b .pre .0) (b .pre .1) (a .k) (a .terms) (number (a .seen))
+    pair-added (a .indices .now) (a .starts .now) (a .counts .now) (a .pool .now) (a .n) (a .line .now) (a .at) (b .pre .0) (b .pre .1) (a .k) (a .sum .terms) (number (a .sum .seen))
     (a .scratch .now) (f .last .1 .1 .0) (m .last .1 .1 .1 .1 .0) (p .result) (f .result) (m .result) (b .pre .6) (p .ensures) (f .ensures) (m .ensures)
 
 pub add-pair-spec : {M : Type 1} → statement M

@@ -21,11 +21,11 @@ loop-holds c =
     let b = c .before in
     all-start (b .args .indices .now) (b .args .n) (b .args .line .now) (b .args .at) (b .pre .1 .0) (b .pre .1 .1)
 
-add-take-index : tie.Need-add-take-index Inv-loop μ-loop
-add-take-index c = search needs
+add-small-at : tie.Need-add-small-at Inv-loop μ-loop
+add-small-at c = search needs
 
-take-index-requires : tie.Need-take-index-requires Inv-loop μ-loop
-take-index-requires c κs =
+small-at-requires : tie.Need-small-at-requires Inv-loop μ-loop
+small-at-requires c κs =
     let l = c .before .loop in
     let s = c .before .before .before .args .line .now in
     index-good s (l .i) (l .inv .left) (next-pair s (l .i) (l .inv .left) (l .inv .reads) (c .loop-test .taken))
@@ -45,15 +45,15 @@ returns c =
     let t = f .before in
     let l = t .before .before .loop in
     let a = t .before .before .before .before .args in
-    all-missing (a .indices .now) (a .n) (a .line .now) (a .at) (l .i) (l .inv) (t .before .loop-test .taken) (t .take-index .result .value) (t .take-index .result .end)
-    (t .take-index .ensures) (found-nothing (c .enum-told2 .given .1) (f .find .ensures))
+    all-missing (a .indices .now) (a .n) (a .line .now) (a .at) (l .i) (l .inv) (t .before .loop-test .taken) (t .small-at .result .value) (t .small-at .result .end)
+    (t .small-at .ensures) (found-nothing (c .enum-told2 .given .1) (f .find .ensures))
 
 add-skip-field : tie.Need-add-skip-field Inv-loop μ-loop
 add-skip-field c =
     let t = c .before .before .before .before in
     let l = t .before .before .loop in
     let s = t .before .before .before .before .args .line .now in
-    let h = factor-inside s (l .i) (l .inv .left) (next-pair s (l .i) (l .inv .left) (l .inv .reads) (t .before .loop-test .taken)) (t .take-index .result .value) (t .take-index .result .end) (t .take-index .ensures) in
+    let h = factor-inside s (l .i) (l .inv .left) (next-pair s (l .i) (l .inv .left) (l .inv .reads) (t .before .loop-test .taken)) (t .small-at .result .value) (t .small-at .result .end) (t .small-at .ensures) in
     search needs
 
 skip-field-requires : tie.Need-skip-field-requires Inv-loop μ-loop
@@ -62,14 +62,14 @@ skip-field-requires c κs =
     let l = t .before .before .loop in
     let s = t .before .before .before .before .args .line .now in
     let n = next-pair s (l .i) (l .inv .left) (l .inv .reads) (t .before .loop-test .taken) in
-    let h = factor-inside s (l .i) (l .inv .left) n (t .take-index .result .value) (t .take-index .result .end) (t .take-index .ensures) in
-    (omega arith, factor-whole s (l .i) (l .inv .left) n (t .take-index .result .value) (t .take-index .result .end) (t .take-index .ensures))
+    let h = factor-inside s (l .i) (l .inv .left) n (t .small-at .result .value) (t .small-at .result .end) (t .small-at .ensures) in
+    (omega arith, factor-whole s (l .i) (l .inv .left) n (t .small-at .result .value) (t .small-at .result .end) (t .small-at .ensures))
 
 loop-less : tie.Need-loop-less Inv-loop μ-loop
 loop-less c =
     let t = c .before .before .before .before .before in
     let l = t .before .before .loop in
-    let g = t .take-index .ensures in
+    let g = t .small-at .ensures in
     let f = c .skip-field .ensures .taken in
     let h = t .before .loop-test .taken in
     omega (arith, g .onward, f .onward, f .inside, h)
@@ -80,8 +80,8 @@ loop-again c =
     let t = f .before in
     let l = t .before .before .loop in
     let a = t .before .before .before .before .args in
-    all-more (a .indices .now) (a .n) (a .line .now) (a .at) (l .i) (l .inv) (t .before .loop-test .taken) (t .take-index .result .value) (t .take-index .result .end)
-    (t .take-index .ensures) _ (c .skip-field .result) (found-at (c .before .before .enum-told .given .1) (f .find .ensures)) (c .skip-field .ensures)
+    all-more (a .indices .now) (a .n) (a .line .now) (a .at) (l .i) (l .inv) (t .before .loop-test .taken) (t .small-at .result .value) (t .small-at .result .end)
+    (t .small-at .ensures) _ (c .skip-field .result) (found-at (c .before .before .enum-told .given .1) (f .find .ensures)) (c .skip-field .ensures)
 
 returns-2 : tie.Need-returns-2 Inv-loop μ-loop
 returns-2 c =
@@ -96,8 +96,8 @@ all-stored-spec =
     Inv-loop
     μ-loop
     loop-holds
-    add-take-index
-    take-index-requires
+    add-small-at
+    small-at-requires
     find-requires
     enum-told
     enum-told-2

@@ -1,6 +1,6 @@
 -- `table::skip` meets its contract. The loop's invariant: x is none of the first j numbers.
 -- The measure is the count of numbers left. Assumes nothing.
-use mathlib.Core.Path.{_≡_, sym, _∙_}
+use mathlib.Core.Path.{sym, _∙_}
 use Prim.Native.Nat.{_≤_, _-_}
 use native.Mathlib.Omega.{arith}
 use borrow.Author.Count.{below-none}

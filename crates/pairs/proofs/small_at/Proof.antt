@@ -1,14 +1,14 @@
--- `steps::number::small_at` meets its contract: a number that can be read and that half a word holds is found. No loop.
+-- `pairs::small_at` meets its contract: a number that can be read and that half a word holds is found. No loop.
 -- Assumes nothing.
 use mathlib.Core.Logic.{⊎-elim}
 use native.Mathlib.Omega.{arith}
 use Rattle.paper.specs.Grammar.{decimal}
 use Rattle.reader.proofs.Numbers.{decimal-got}
 use Rattle.fields.proofs.Taking.{good-weaken, good-decimal}
-use Rattle.steps.proofs.Said.{small-word, small-got}
+use Rattle.pairs.proofs.Walking.{small-word, small-got}
 use borrow.Author.Needs.{needs}
-use Rattle.steps.proofs.number.small_at.Statement.{statement}
-use Rattle.steps.proofs.number.small_at.Tie as tie
+use Rattle.pairs.proofs.small_at.Statement.{statement}
+use Rattle.pairs.proofs.small_at.Tie as tie
 
 decimal-at-requires : tie.Need-decimal-at-requires
 decimal-at-requires c κs = search needs
