@@ -6,7 +6,6 @@ use lib.ListN.{length, drop, getD}
 use Rattle.limits.specs.Limits.{storedPolynomials, fieldTerms, termWords, mostPoolTerms}
 use Rattle.algebra.specs.Polynomial.{Poly}
 use Rattle.terms.specs.Terms.{decode}
-use Rattle.paper.specs.Rules as paper
 use Rattle.paper.specs.Rules.{Entry, Store}
 use Rattle.table.specs.declared.Table.{Table}
 
