@@ -14,8 +14,6 @@ ghost use Rattle.checker.specs.Checked.{Ranged, indexOfRead, LineJudged}
 use reader::line::Kind;
 use reader::line::LineScan;
 use reader::line::scan_line;
-use reader::number::Decimal;
-use reader::number::decimal_at;
 use steps::state::State;
 use steps::state::Step;
 
@@ -71,11 +69,7 @@ fn index_at(line: &[u8], at: usize) -> u64
     requires { ⌜ Good decimal isWord (now line) at ⌝ }
     ensures { λ r. ⌜ ((n : ℕ) (rest : Bytes) → decimal (drop at (now (line .entry))) ≡ got n rest → r ≡ n) ⌝ }
 {
-    let d = decimal_at(line, at);
-    let Decimal::Value(value, _) = d else {
-        return 0;
-    };
-    value
+    fields::take_decimal(line, at).value
 }
 
 // The index of a statement of this kind.

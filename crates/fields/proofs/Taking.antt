@@ -18,9 +18,6 @@ use Rattle.paper.specs.Grammar.{Bytes, Read, got, stuck, Reader, next, each, di
 use Rattle.paper.specs.Statement.{isVariable, setOf}
 use Rattle.paper.proofs.Ranges.{cond-yes, cond-no}
 use Rattle.paper.proofs.Reading.{parted, Takes, each-more, each-stuck, every-append, digits-more, digits-least, decimal-first, decimal-low, decimal-high, decimal-end}
-use Rattle.reader.specs.Numbers.{DecimalIs}
-use Rattle.reader.specs.declared.number.Decimal.{Decimal}
-use Rattle.reader.specs.declared.number.Decimal.the-variants.{Value, Large, Stuck}
 use Rattle.fields.specs.Worded.{signedWord}
 use Rattle.fields.specs.Fields.{Good, isWord}
 use Rattle.reader.proofs.Scans.{Passed}
@@ -50,13 +47,6 @@ is-variable v e = ltb-true v 256 e
 
 pub good-weaken : {A : Type 0} {read : Reader A} {f g : A → Bool} {s : Bytes} {at : ℕ} → ((x : A) → f x ≡ true → g x ≡ true) → Good read f s at → Good read g s at
 good-weaken h p = record { value = p .value; rest = p .rest; reads = p .reads; passes = h (p .value) (p .passes); inside = p .inside }
-
-pub good-decimal : (s : Bytes) (at : ℕ) (d : Decimal) → DecimalIs decimal s at d → Good decimal isWord s at → ((v e : ℕ) → d ≡ Value v e → ⊥) → ⊥
-good-decimal s at (Value v e) d g n = n v e refl
-good-decimal s at (Large e) d g n =
-    let l = d .large in
-    omega (arith, is-word (g .value) (g .passes), same-value (g .reads) (d .taken .reads))
-good-decimal s at (Stuck p) d g n = not-both (g .reads) (d .reads)
 
 -- ---- the next item
 pub record Following {A : Type 0} (item : Reader A) (test : A → Bool) (s : Bytes) (i : ℕ) (items whole : List A) : Type 0 where

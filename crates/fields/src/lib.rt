@@ -15,7 +15,7 @@ use terms::Term;
 use words::Set;
 
 // A number and its end.
-struct Taken {
+pub struct Taken {
     pub value: u64,
     pub end: usize,
 }
@@ -38,7 +38,7 @@ pub struct FieldRun {
     pub end: usize,
 }
 
-// The decimal whose digits before at have the value first. A scan has found that a word holds it.
+// The decimal whose digits before at have the value first.
 fn take_digits(s: &[u8], at: usize, first: u64) -> Taken
     requires { ⌜ Good (digits first) isWord (now s) at ⌝ }
     ensures { λ r. ⌜ Got (digits first) (now (s .entry)) at (r .value) (r .end) ⌝ }
@@ -59,8 +59,8 @@ fn take_digits(s: &[u8], at: usize, first: u64) -> Taken
     Taken { value, end: i }
 }
 
-// The decimal at at.
-fn take_decimal(s: &[u8], at: usize) -> Taken
+// The decimal at at. A scan has found that a word holds it.
+pub fn take_decimal(s: &[u8], at: usize) -> Taken
     requires { ⌜ Good decimal isWord (now s) at ⌝ }
     ensures { λ r. ⌜ Got decimal (now (s .entry)) at (r .value) (r .end) ⌝ }
 {

@@ -16,7 +16,6 @@ ghost use Rattle.fields.specs.Fields.{Good};
 ghost use Rattle.table.specs.Table.{polyAt, firsts, entryAt};
 ghost use Rattle.regions.specs.Regions.{factorAt, goalAt};
 ghost use Rattle.pairs.specs.Pairs.{isSmall, PairsAt, StoredPairs, PoolHolds, Summed, Names, PlaceOf, Lies, Extended, PairAdded};
-use reader::number::Decimal;
 use table::Column;
 use table::Found;
 use table::Indices;
@@ -52,13 +51,10 @@ pub fn small_at(line: &[u8], at: usize) -> Small
     requires { ⌜ Good decimal isSmall (now line) at ⌝ }
     ensures { λ r. ⌜ Got decimal (now (line .entry)) at (r .value) (r .end) ⌝ }
 {
-    let d = reader::number::decimal_at(line, at);
-    let Decimal::Value(value, end) = d else {
-        return Small { value: 0, end: at };
-    };
+    let d = fields::take_decimal(line, at);
     Small {
-        value: value as u32,
-        end,
+        value: d.value as u32,
+        end: d.end,
     }
 }
 
