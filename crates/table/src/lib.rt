@@ -27,6 +27,7 @@ pub enum Found {
 }
 
 impl Table {
+    // No polynomial is stored.
     pub fn new() -> Table
         ensures { λ r. ⌜ Fresh r ⌝ }
     {
