@@ -14,7 +14,7 @@ use lib.Seq.{drop-cons, drop-drop, take-add}
 use borrow.Author.Tests.{leb-true, not-true, eqb-true, eqb-false, le-leb, lt-leb, eq-eqb, ne-eqb}
 use Rattle.ground.specs.Lists.{every}
 use Rattle.ground.proofs.Tests.{and-left, and-right, and-both}
-use Rattle.paper.specs.Grammar.{Bytes, bytes, Read, got, stuck, Reader, next, give, literal, upTo, each, isDigit, digits, decimal, sign, term, asWritten, polynomial, tab, number, field, pair}
+use Rattle.paper.specs.Grammar.{Bytes, bytes, Read, got, stuck, Reader, next, give, literal, upTo, each, isDigit, digits, decimal, sign, term, asWritten, polynomial, tab, field, pair}
 use Rattle.paper.specs.Statement.{WrittenTerm, Written}
 
 clash : {A : Type 0} {x : A} {s t : Bytes} → stuck s ≡ got x t → ⊥
@@ -219,10 +219,6 @@ takes-tab : Takes byte 1 tab
 unfolding tab bytes
 takes-tab = takes-literal (bytes "\t")
 
-pub takes-number : Takes byte 2 number
-unfolding number
-takes-number = takes-then tab _ takes-tab (λ u. takes-bytes decimal takes-decimal)
-
 pub takes-field : Takes byte 2 field
 unfolding field
 takes-field = takes-then tab _ takes-tab (λ u. takes-bytes polynomial takes-polynomial)
@@ -232,14 +228,6 @@ unfolding pair
 takes-pair = takes-then decimal _ (takes-bytes decimal takes-decimal) (λ i. takes-then field _ takes-field (λ f. takes-give _))
 
 -- ---- as many items as follow
--- one item and those behind it, taken apart
-pub record EachParts {A : Type 0} (c : ℕ) (item : Reader A) (s : Bytes) (x : A) (xs : List A) (r : Bytes) : Type 0 where
-  pub inner : Bytes
-  pub behind : Bytes
-  pub begins : s ≡ c ∷ inner
-  pub first : item inner ≡ got x behind
-  pub others : each c item behind ≡ got xs r
-
 module _ {A : Type 0} {allowed : ℕ → Bool} {n : ℕ} (c : ℕ) (item : Reader A) (takes : Takes allowed n item) where
   -- a bound past the bytes left changes nothing
   pub upTo-enough : (m k : ℕ) (s : Bytes) → length s ≤ m → length s ≤ k → upTo m c item s ≡ upTo k c item s
@@ -276,29 +264,6 @@ module _ {A : Type 0} {allowed : ℕ → Bool} {n : ℕ} (c : ℕ) (item : Reade
           let d = takes-upTo (length s) c item ok takes (p .rest) (q .value) (q .rest) (q .first) in
           absurd (let y : ⊥ = omega (arith, ap length z, after-length a, after-length d) in y)
       go false e = let q : [] ≡ xs = cc in sym q
-
-  pub each-parts : (s : Bytes) (x : A) (xs : List A) (r : Bytes) → each c item s ≡ got (x ∷ xs) r → EachParts c item s x xs r
-  unfolding upTo
-  each-parts [] x xs r e = let z : _≡_ {A = ℕ} 0 1 = cc in absurd (let y : ⊥ = omega arith in y)
-  each-parts (b ∷ s) x xs r e = go (eqb b c) refl e
-    where
-      go : (t : Bool) → eqb b c ≡ t → cond t (next (item s) (λ x r. next (upTo (length s) c item r) (λ xs r′. got (x ∷ xs) r′))) (got [] (b ∷ s)) ≡ got (x ∷ xs) r
-          → EachParts c item (b ∷ s) x xs r
-      go true d e =
-          let p = parted (item s) (λ x r. next (upTo (length s) c item r) (λ xs r′. got (x ∷ xs) r′)) e in
-          let q = parted (upTo (length s) c item (p .rest)) (λ xs r′. got (p .value ∷ xs) r′) (p .second) in
-          let w = q .second in
-          let a = takes s (p .value) (p .rest) (p .first) in
-          let vx : p .value ≡ x = cc in
-          let vs : got (q .value) (q .rest) ≡ got xs r = cc in
-          record {
-            inner = s;
-            behind = p .rest;
-            begins = ap (λ (y : ℕ). y ∷ s) (eqb-true b c d);
-            first = p .first ∙ ap (λ (y : A). got y (p .rest)) vx;
-            others = upTo-enough (length (p .rest)) (length s) (p .rest) (omega arith) (omega (arith, after-length a)) ∙ q .first ∙ vs;
-          }
-      go false d e = let z : _≡_ {A = ℕ} 0 1 = cc in absurd (let y : ⊥ = omega arith in y)
 
   module _ (s : Bytes) (i : ℕ) where
     pub each-more : i < length s → getD s i 0 ≡ c → (x : A) (r : Bytes) → item (drop (i + 1) s) ≡ got x r

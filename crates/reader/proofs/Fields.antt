@@ -5,13 +5,12 @@ use mathlib.Core.Logic.{_⊎_, inl, inr, ⊎-elim}
 use mathlib.Core.List.{List, [], _∷_}
 use Prim.Native.Nat.{ℕ, suc, _+_, _≤_, _<_}
 use Prim.Native.Char.{code}
-use native.Mathlib.Numerals.{add-one}
 use native.Mathlib.Omega.{arith}
 use lib.ListN.{length, take, drop, getD, length-drop}
 use lib.Seq.{drop-cons, drop-drop}
-use Rattle.paper.specs.Grammar.{Bytes, bytes, Read, got, stuck, Reader, next, give, literal, end, each, decimal, polynomial, tab, number, field, pair, kinds, beginsAlike, oneOf, statement}
+use Rattle.paper.specs.Grammar.{Bytes, bytes, Read, got, stuck, Reader, next, give, literal, end, decimal, polynomial, tab, number, field, pair, kinds, beginsAlike, oneOf, statement}
 use Rattle.paper.specs.Statement.{Written, Pair, Statement, ring, input, goal, lin, del, ext}
-use Rattle.paper.proofs.Reading.{next-assoc, parted, Takes, literal-inside, takes-decimal, takes-polynomial, takes-pair, each-parts, each-more}
+use Rattle.paper.proofs.Reading.{next-assoc, parted, Takes, literal-inside, takes-decimal, takes-polynomial, takes-pair, each-more}
 use Rattle.reader.specs.Places.{Got}
 use Rattle.reader.specs.Lines.{LineKind, headed, morePairs, rings, inputs, goals, lins, dels, exts, kindOf}
 use Rattle.reader.specs.declared.line.Kind.the-variants.{Ring, Input, Goal, Lin, Del, Ext}
@@ -36,26 +35,6 @@ same-end read s at {x} {y} {d} {e} g h =
     let j = h .inside in
     let l : drop d s ≡ drop e s = cc in
     ((cc), omega (arith, ap length l, length-drop d s, length-drop e s))
-
--- of as many items as follow, the first stands behind the byte c at i and ends at place
-pub record FirstItem {A : Type 0} (c : ℕ) (item : Reader A) (s : Bytes) (i : ℕ) (x : A) (xs : List A) (r : Bytes) : Type 0 where
-  pub inside : i < length s
-  pub separator : getD s i 0 ≡ c
-  pub place : ℕ
-  pub taken : Got item s (i + 1) x place
-  pub others : each c item (drop place s) ≡ got xs r
-
-pub first-item : {A : Type 0} {allowed : ℕ → Bool} {n : ℕ} (c : ℕ) (item : Reader A) → Takes allowed n item → (s : Bytes) (i : ℕ) (x : A) (xs : List A) (r : Bytes)
-    → each c item (drop i s) ≡ got (x ∷ xs) r → FirstItem c item s i x xs r
-first-item c item t s i x xs r e =
-    let p = each-parts c item t (drop i s) x xs r e in
-    let l : i < length s = omega (arith, ap length (p .begins), length-drop i s) in
-    let d = drop-cons s i 0 l in
-    let b : getD s i 0 ≡ c = (let w = p .begins in cc) in
-    let n : drop (suc i) s ≡ p .inner = (let w = p .begins in cc) in
-    let f : item (drop (i + 1) s) ≡ got x (p .behind) = rw (add-one i) (ap item n ∙ p .first) in
-    let g = placed item t s (i + 1) (omega arith) x (p .behind) f in
-    record { inside = l; separator = b; place = g .0; taken = g .2; others = ap (each c item) (sym (g .3)) ∙ p .others }
 
 -- a tab stands at m, and x is read behind it
 pub record Tabbed {A : Type 0} (read : Reader A) (s : Bytes) (m : ℕ) (x : A) (r : Bytes) : Type 0 where
@@ -85,26 +64,6 @@ tabbed-number s m e = tabbed decimal s m e
 tabbed-field : (s : Bytes) (m : ℕ) {p : Written} {r : Bytes} → field (drop m s) ≡ got p r → Tabbed polynomial s m p r
 unfolding field
 tabbed-field s m e = tabbed polynomial s m e
-
--- the index and the factor of a pair; r is what they leave
-pub record PairAt (s : Bytes) (at : ℕ) (q : Pair) (r : Bytes) : Type 0 where
-  pub middle : ℕ
-  pub index : Got decimal s at (q .index) middle
-  pub factor : Tabbed polynomial s middle (q .factor) r
-
-pub pair-at : (s : Bytes) (at : ℕ) → at ≤ length s → (q : Pair) (r : Bytes) → pair (drop at s) ≡ got q r → PairAt s at q r
-unfolding pair
-pair-at s at h q r e =
-    let i = parted (decimal (drop at s)) _ e in
-    let f = parted (field (i .rest)) _ (i .second) in
-    let x : record { index = i .value; factor = f .value } ≡ q = (let w = f .second in cc) in
-    let z : f .rest ≡ r = (let w = f .second in cc) in
-    let g = placed decimal takes-decimal s at h (q .index) (i .rest) (i .first ∙ ap (λ (p : Pair). got (p .index) (i .rest)) x) in
-    record {
-      middle = g .0;
-      index = g .2;
-      factor = tabbed-field s (g .0) (ap field (sym (g .3)) ∙ f .first ∙ ap₂ (λ (p : Pair) (l : Bytes). got (p .factor) l) x z);
-    }
 
 -- what a keyword leaves
 behind-word : {A : Type 0} (w s : Bytes) (read : Reader A) {x : A} {r : Bytes} → next (literal w s) (λ _. read) ≡ got x r → read (drop (length w) s) ≡ got x r

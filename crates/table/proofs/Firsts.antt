@@ -11,7 +11,7 @@ use borrow.Author.Tests.{eq-eqb, ne-eqb}
 use Rattle.ground.specs.Lists.{any}
 use Rattle.ground.proofs.Tests.{or-none-left, or-none-right}
 use Rattle.paper.specs.Rules.{Entry, Store, stored, find, remove}
-use Rattle.paper.proofs.Store.{Distinct, stored-append, find-append}
+use Rattle.paper.proofs.Store.{stored-append, find-append}
 use Rattle.table.specs.Table.{firsts}
 
 module _ {A : Type 0} where
@@ -82,7 +82,3 @@ unfolding remove stored any
 remove-split [] b e x here h = rw (eq-eqb x (e .index) (sym here))
 remove-split (y ∷ a) b e x here h =
     rw (or-none-left (eqb x (y .index)) (stored a x) h) (ap (λ (s : Store). y ∷ s) (remove-split a b e x here (or-none-right (eqb x (y .index)) (stored a x) h)))
-
-pub distinct-split : (a b : Store) (e : Entry) → Distinct (a ++ (e ∷ b)) → stored b (e .index) ≡ false
-distinct-split [] b e d = d .0
-distinct-split (y ∷ a) b e d = distinct-split a b e (d .1)

@@ -3,7 +3,7 @@
 use mathlib.Core.Path.{_≡_, refl, sym, ap, subst, _∙_}
 use mathlib.Core.Bool.{true, false}
 use mathlib.Core.List.{List, [], _∷_}
-use Prim.Native.Nat.{ℕ, zero, suc, _+_, _-_, _*_, _≤_, _<_}
+use Prim.Native.Nat.{ℕ, zero, suc, _+_, _*_, _≤_, _<_}
 use native.Mathlib.Omega.{arith}
 use lib.ListN.{length, drop, getD}
 use Rattle.ground.specs.Lists.{total}
@@ -13,13 +13,13 @@ use Rattle.limits.specs.Limits.{termWords, mostPoolTerms}
 use Rattle.algebra.specs.Polynomial.{Poly}
 use Rattle.terms.proofs.Decode.{decode-length, decode-same}
 use Rattle.paper.specs.Rules.{Entry, stored, find, storedTerms}
-use Rattle.paper.proofs.Store.{Distinct, terms-append}
+use Rattle.paper.proofs.Store.{terms-append}
 use Rattle.table.specs.declared.Found.{Found}
 use Rattle.table.specs.declared.Found.the-variants.{At, Nothing}
 use Rattle.table.specs.declared.Table.{Table}
 use Rattle.table.specs.Table.{firsts, polyAt, entryAt, storeOf, termsBefore, Packed, Fitting}
-use Rattle.table.specs.Steps.{Absent, FirstAt, Finds, Fresh, Pushed, Forgotten}
-use Rattle.table.proofs.Firsts.{firsts-length, firsts-same, firsts-split, behind, stored-none, stored-split, find-split, distinct-split}
+use Rattle.table.specs.Steps.{Absent, FirstAt, Finds, Fresh, Forgotten}
+use Rattle.table.proofs.Firsts.{firsts-length, firsts-same, firsts-split, behind, stored-none, stored-split, find-split}
 use Rattle.table.proofs.Packing.{ends-used}
 
 pub store-length : (s : Table) (pool : List ℕ) → length (storeOf s pool) ≡ s .stored
@@ -36,12 +36,6 @@ pub store-terms : (s : Table) (pool : List ℕ) → Packed s → storedTerms (st
 store-terms s pool p = terms (s .indices) (s .starts) (s .counts) pool (s .stored) ∙ sym (p .ends)
 
 -- ---- where an entry's words lie
-pub entry-words : (s : Table) (pool : List ℕ) (capacity j : ℕ) → Fitting s pool capacity → j < s .stored
-    → (getD (s .starts) j 0 * termWords + getD (s .counts) j 0 * termWords ≤ s .used * termWords) × (s .used * termWords ≤ length pool)
-entry-words s pool capacity j f h =
-    let e : getD (s .starts) j 0 + getD (s .counts) j 0 ≤ s .used = ends-used (s .starts) (s .counts) (s .stored) (s .used) j (f .packed) h in
-    (omega arith, omega arith)
-
 -- ---- words behind the used ones do not matter
 pub poly-kept : (ss cs pool r : List ℕ) (a e j : ℕ) → Within a e pool r → getD ss j 0 * termWords + getD cs j 0 * termWords ≤ a
     → polyAt ss cs r j ≡ polyAt ss cs pool j
@@ -82,36 +76,10 @@ module _ (s : Table) (pool : List ℕ) (x j : ℕ) (f : FirstAt (s .indices) (s 
       rw (firsts-split at j (s .stored) (f .inside))
       (find-split (firsts at j) (behind at j (s .stored)) (at j) x (f .here) (stored-none at j x (f .earlier .nowhere)))
 
--- where no index stands twice, each stands first where it stands
-module _ (s : Table) (pool : List ℕ) (d : Distinct (storeOf s pool)) where
-  abbrev entry : ℕ → Entry
-  entry = entryAt (s .indices) (s .starts) (s .counts) pool
-
-  twice : (k j : ℕ) → k < j → j < s .stored → getD (s .indices) k 0 ≡ getD (s .indices) j 0 → ⊥
-  twice k j l h e =
-      let later : ℕ → Entry = λ i. entry (k + 1 + i) in
-      let n : ℕ = s .stored - (k + 1) in
-      let i : ℕ = j - (k + 1) in
-      let place : k + 1 + i ≡ j = omega arith in
-      let here : later i .index ≡ entry k .index = rw place (sym e) in
-      let free : stored (firsts later n) (entry k .index) ≡ false
-      = distinct-split (firsts entry k) (firsts later n) (entry k) (rw (firsts-split entry k (s .stored) (omega arith)) at d) in
-      let taken : stored (firsts later n) (entry k .index) ≡ true
-      = rw (firsts-split later i n (omega arith)) (stored-split (firsts later i) (behind later i n) (later i) (entry k .index) here) in
-      let z : _≡_ {A = ℕ} 0 1 = cc in
-      omega arith
-
-  pub distinct-first : (j : ℕ) → j < s .stored → FirstAt (s .indices) (s .stored) (getD (s .indices) j 0) j
-  distinct-first j h = record { inside = h; here = refl; earlier = record { nowhere = λ k l e. twice k j l h e } }
-
 -- ---- the table fits the pool after each step
 pub fresh-fitting : (r : Table) (pool : List ℕ) (capacity : ℕ) → Fresh r
     → capacity * termWords ≤ length pool → capacity ≤ mostPoolTerms → Fitting r pool capacity
 fresh-fitting r pool capacity f w m = record { packed = f .packed; room = omega (arith, f .used); words = w; most = m }
-
-pub pushed-fitting : (s r : Table) (pool : List ℕ) (capacity index terms : ℕ) → Fitting s pool capacity
-    → Pushed s index terms r → s .used + terms ≤ capacity → Fitting r pool capacity
-pushed-fitting s r pool capacity index terms f p h = record { packed = p .packed; room = omega (arith, p .used); words = f .words; most = f .most }
 
 pub forgotten-fitting : (s r : Table) (pool left : List ℕ) (capacity j : ℕ) → Fitting s pool capacity
     → Forgotten s pool j r left → length left ≡ length pool → Fitting r left capacity

@@ -45,10 +45,6 @@ module _ (k n : ℕ) (s t : List ℕ) (c : ℕ) (ec : c ≡ getD t setWords 0 % 
 leaves-eq : {n m : ℕ} {p q : Poly} {s r : List ℕ} → p ≡ q → Leaves n p s r m → Leaves n q s r m
 leaves-eq e h = record { terms = h .terms ∙ e; few = h .few; within = h .within }
 
--- how many terms are left
-pub leaves-length : (n m : ℕ) (p : Poly) (s r : List ℕ) → Leaves n p s r m → m ≡ length p
-leaves-length n m p s r h = sym (decode-length m r) ∙ ap length (h .terms)
-
 module _ (k n : ℕ) (s t : List ℕ) where
   pub settle-first : (r : List ℕ) (m : ℕ) → n ≡ 0 → Leaves (n + 1) (decode n s ++ put k (termOf t .set) (termOf t .coef) []) s r m
       → Leaves (n + 1) (settle k (termOf t) (decode n s)) s r m

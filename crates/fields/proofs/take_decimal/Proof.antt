@@ -1,9 +1,7 @@
 -- `fields::take_decimal` meets its contract: a decimal that can be read begins with a digit, and after 0 it is over. No loop.
 -- Assumes nothing.
 use mathlib.Core.Path.{_∙_}
-use Prim.Native.Nat.{_-_}
 use native.Mathlib.Omega.{arith}
-use lib.ListN.{getD}
 use borrow.Author.Needs.{needs}
 use Rattle.paper.proofs.Reading.{decimal-zero, decimal-first}
 use Rattle.fields.proofs.Taking.{first-digit, good-digits}
