@@ -37,7 +37,7 @@ pub fn check(text: &[u8], pool: &mut [u64], scratch: &mut [u64]) -> Answer
     }
     let room = capacity(pool.len());
     let a = run(text, pool, scratch, room);
-    table::zero(pool);
-    table::zero(scratch);
+    words::zero(pool);
+    words::zero(scratch);
     a
 }

@@ -5,7 +5,7 @@ mod write;
 
 ghost use mathlib.Core.Path.{_≡_};
 ghost use Prim.Native.Nat.{_*_, _≤_};
-ghost use lib.ListN.{length, replicate};
+ghost use lib.ListN.{length};
 ghost use Rattle.limits.specs.Limits.{fieldTerms, termWords, leastSpellingScratch};
 ghost use Rattle.terms.specs.Terms.{decode};
 ghost use Rattle.paper.specs.Spelling.{spell, spellRead, wholeField};
@@ -92,17 +92,6 @@ fn spell_within(field: &[u8], k: u64, scratch: &mut [u64], out: &mut [u8]) -> Sp
     write_fitting(scratch, n, k as u32, out)
 }
 
-// Zeroes the words.
-fn clear(s: &mut [u64])
-    ensures { λ _. ⌜ now (s .exit) ≡ replicate (length (now (s .entry))) 0 ⌝ }
-{
-    let mut i = 0;
-    while i < s.len() {
-        s[i] = 0;
-        i += 1;
-    }
-}
-
 // Writes the field's spelling at k into the output. Refused, the output stays as it is; the scratch is zero afterwards,
 // and untouched where it is too short.
 pub fn spell(field: &[u8], k: u64, scratch: &mut [u64], out: &mut [u8]) -> Spelled
@@ -112,10 +101,10 @@ pub fn spell(field: &[u8], k: u64, scratch: &mut [u64], out: &mut [u8]) -> Spell
         return refused(limits::SHORT);
     }
     if limits::LINE_BYTES < field.len() {
-        clear(scratch);
+        words::zero(scratch);
         return refused(limits::LONGLINE);
     }
     let r = spell_within(field, k, scratch, out);
-    clear(scratch);
+    words::zero(scratch);
     r
 }

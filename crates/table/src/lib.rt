@@ -1,7 +1,7 @@
 // The table of the stored polynomials, whose terms lie one behind the other in the pool.
 ghost use mathlib.Core.Path.{_≡_};
 ghost use Prim.Native.Nat.{_+_, _-_, _≤_, _<_};
-ghost use lib.ListN.{length, drop, getD, set, replicate};
+ghost use lib.ListN.{length, drop, getD, set};
 ghost use lib.Seq.{paste};
 ghost use Rattle.limits.specs.Limits.{storedPolynomials};
 ghost use Rattle.table.specs.Steps.{Absent, amongEight, Finds, Closable, Closed, Fresh};
@@ -139,17 +139,6 @@ pub fn close_gap(pool: &mut [u64], at: usize, len: usize, used: usize)
     let mut i = 0;
     while i < size {
         pool[at + i] = pool[from + i];
-        i += 1;
-    }
-}
-
-// Makes every word 0.
-pub fn zero(room: &mut [u64])
-    ensures { λ _. ⌜ now (room .exit) ≡ replicate (length (now (room .entry))) 0 ⌝ }
-{
-    let mut i = 0;
-    while i < room.len() {
-        room[i] = 0;
         i += 1;
     }
 }

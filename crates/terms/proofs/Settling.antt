@@ -12,7 +12,8 @@ use Rattle.ground.proofs.Congruence.{same-eq}
 use Rattle.algebra.specs.Polynomial.{Term, Poly, put, insert, reduce, Reduced}
 use Rattle.algebra.proofs.Reduced.{reduced-reduce}
 use Rattle.algebra.proofs.Sums.{bound, below-bound, reduce-sums}
-use Rattle.terms.specs.Order.{total, SameTerms, none, setAt, Falls}
+use Rattle.ground.specs.Lists.{total}
+use Rattle.terms.specs.Order.{SameTerms, none, setAt, Falls}
 use Rattle.terms.specs.Steps.{settle}
 use Rattle.terms.proofs.SameTerms.{total-append, same-terms-sum}
 

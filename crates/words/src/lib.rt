@@ -2,7 +2,7 @@
 ghost use mathlib.Core.Path.{_≡_};
 ghost use Prim.Native.Nat.{ℕ, _+_, _-_, _*_, _%_, _^_, _≤_, _<_};
 ghost use lib.Bits.{bitOr};
-ghost use lib.ListN.{length};
+ghost use lib.ListN.{length, replicate};
 ghost use Rattle.limits.specs.Limits.{variables};
 ghost use Rattle.algebra.specs.Polynomial.{has, members};
 ghost use Rattle.words.specs.Words.{number, orderOf, Lowest};
@@ -129,4 +129,15 @@ pub fn without_lowest(w: u64) -> u64
     ensures { λ r. ⌜ ((v : ℕ) → Lowest 64 w v → r + 2 ^ v ≡ w) ⌝ }
 {
     w & (w - 1)
+}
+
+// Makes every word 0.
+pub fn zero(room: &mut [u64])
+    ensures { λ _. ⌜ now (room .exit) ≡ replicate (length (now (room .entry))) 0 ⌝ }
+{
+    let mut i = 0;
+    while i < room.len() {
+        room[i] = 0;
+        i += 1;
+    }
 }

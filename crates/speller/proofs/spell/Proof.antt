@@ -16,8 +16,8 @@ returns c =
     let a = c .before .before .before .before .before .args in
     spells-short (a .field .now) (a .k) (a .scratch .now) (a .out .now) (c .refused .result) (c .before .if1 .taken) (c .refused .ensures)
 
-clear-requires : tie.Need-clear-requires
-clear-requires c κs = search needs
+zero-requires : tie.Need-zero-requires
+zero-requires c κs = search needs
 
 refused-requires-2 : tie.Need-refused-requires-2
 refused-requires-2 c κs = search needs
@@ -28,15 +28,15 @@ same-length c = search needs
 returns-2 : tie.Need-returns-2
 returns-2 c =
     let a = c .before .before .before .before .before .before .before .before .before .before .args in
-    let z = c .before .before .before .clear in
+    let z = c .before .before .before .zero in
     spells-long (a .field .now) (a .k) (a .scratch .now) (a .out .now) (c .refused2 .result) (z .last .0) (c .before .before .before .before .before .before .if1 .left) (z .ensures)
     (c .before .before .before .before .before .if2 .taken) (c .refused2 .ensures)
 
 spell-within-requires : tie.Need-spell-within-requires
 spell-within-requires c κs = search needs
 
-clear-requires-2 : tie.Need-clear-requires-2
-clear-requires-2 c κs = search needs
+zero-requires-2 : tie.Need-zero-requires-2
+zero-requires-2 c κs = search needs
 
 same-length-2 : tie.Need-same-length-2
 same-length-2 c = search needs
@@ -48,7 +48,7 @@ returns-3 : tie.Need-returns-3
 returns-3 c =
     let a = c .before .before .before .before .before .before .before .before .before .before .before .before .before .before .before .before .args in
     let w = c .before .before .before .before .before .before .before .before .spell-within in
-    let z = c .before .before .clear2 in
+    let z = c .before .before .zero2 in
     spells-read (a .field .now) (a .k) (a .scratch .now) (a .out .now) (w .result) (z .last .0) (c .before .before .before .before .before .before .before .before .before .before .before .before .if1 .left)
     (z .ensures ∙ ap (λ (n : ℕ). replicate n 0) (w .kept .1 .1 .0)) (w .last .1 .1 .1 .0) (c .before .before .before .before .before .before .before .before .before .before .before .if2 .left) (w .ensures)
 
@@ -58,12 +58,12 @@ spell-spec =
     (tie.spec
     refused-requires
     returns
-    clear-requires
+    zero-requires
     refused-requires-2
     same-length
     returns-2
     spell-within-requires
-    clear-requires-2
+    zero-requires-2
     same-length-2
     same-length-3
     returns-3)

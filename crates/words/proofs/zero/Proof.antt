@@ -1,4 +1,4 @@
--- `table::zero` meets its contract. The loop's invariant: the first i words are 0, and the others as they were.
+-- `words::zero` meets its contract. The loop's invariant: the first i words are 0, and the others as they were.
 -- The measure is the count of words left. Assumes nothing.
 use mathlib.Core.Path.{_≡_}
 use mathlib.Core.List.{_++_, append-nil}
@@ -8,8 +8,8 @@ use lib.ListN.{length, drop, replicate}
 use lib.Seq.{drop-length}
 use borrow.Author.Fill.{fill-more}
 use borrow.Author.Needs.{needs}
-use Rattle.table.proofs.zero.Statement.{statement}
-use Rattle.table.proofs.zero.Tie as tie
+use Rattle.words.proofs.zero.Statement.{statement}
+use Rattle.words.proofs.zero.Tie as tie
 
 abbrev Inv-loop : tie.InvT-loop
 Inv-loop room₀ i₀ room i = (i ≤ length room₀) × (length room ≡ length room₀) × (room ≡ replicate i 0 ++ drop i room₀)
