@@ -2,3 +2,4 @@ pub mod Taking
 pub mod TermParts
 pub mod Gathering
 pub mod Meaning
+pub mod Decided

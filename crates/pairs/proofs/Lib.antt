@@ -3,3 +3,4 @@ pub mod Storing
 pub mod Multiplying
 pub mod Adding
 pub mod Summing
+pub mod Decided

@@ -4,3 +4,4 @@ pub mod Scans
 pub mod Polynomials
 pub mod Fields
 pub mod Lines
+pub mod Decided

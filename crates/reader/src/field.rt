@@ -17,14 +17,14 @@ pub enum FieldScan {
 }
 
 // Whether both are true.
-pub fn both(a: bool, b: bool) -> bool
+pub(crate) fn both(a: bool, b: bool) -> bool
     ensures { λ r. ⌜ r ≡ (a && b) ⌝ }
 {
     if a { b } else { false }
 }
 
 // The decimal at at, in range from low to high.
-pub fn scan_number(s: &[u8], at: usize, low: u64, high: u64) -> FieldScan
+pub(crate) fn scan_number(s: &[u8], at: usize, low: u64, high: u64) -> FieldScan
     requires { ⌜ at ≤ length (now s) ⌝ }
     ensures { λ r. ⌜ Scans decimal (within low high) always (now (s .entry)) at r ⌝ }
 {

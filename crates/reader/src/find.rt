@@ -40,7 +40,7 @@ fn skip(s: &[u8], at: usize, b: u8) -> usize
 }
 
 // The place of the first byte b from at on, or the length.
-pub fn find_byte(s: &[u8], at: usize, b: u8) -> usize
+fn find_byte(s: &[u8], at: usize, b: u8) -> usize
     requires { ⌜ at ≤ length (now s) ⌝ }
     ensures { λ r. ⌜ FirstAt b (now (s .entry)) at r ⌝ }
 {

@@ -110,7 +110,7 @@ fn refusal(d: Decimal) -> Number
 }
 
 // The number at at, from low to high.
-pub fn number_at(s: &[u8], at: usize, low: u64, high: u64) -> Number
+pub(crate) fn number_at(s: &[u8], at: usize, low: u64, high: u64) -> Number
     requires { ⌜ at ≤ length (now s) ⌝ }
     ensures { λ r. ⌜ NumberIs low high (now (s .entry)) at r ⌝ }
 {

@@ -1,3 +1,4 @@
 pub mod Reducing
 pub mod Goals
 pub mod Squares
+pub mod Decided

@@ -7,3 +7,4 @@ pub mod Admitting
 pub mod Inputs
 pub mod Checking
 pub mod Deriving
+pub mod Decided

@@ -57,6 +57,7 @@ fresh t f = record {
     distinct = subst Distinct (sym (f .store pool)) tt;
     few = omega arith;
   };
+  columns = f;
 }
 
 -- ---- a step

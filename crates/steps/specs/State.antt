@@ -10,6 +10,7 @@ use Rattle.paper.specs.Rules as paper
 use Rattle.paper.specs.Rules.{modulo, start}
 use Rattle.paper.proofs.Store.{Distinct}
 use Rattle.table.specs.Table.{storeOf, Fitting}
+use Rattle.table.specs.Steps as table
 use Rattle.regions.specs.Regions.{goalAt}
 use Rattle.steps.specs.declared.state.State.{State}
 
@@ -39,3 +40,4 @@ pub record Fresh (s : State) : Type 0 where
   pub lines : s .lines ≡ 0
   pub ready : (capacity : ℕ) (pool scratch : List ℕ) → capacity * termWords ≤ length pool → capacity ≤ mostPoolTerms → leastScratch ≤ length scratch
       → Ready capacity 0 s pool scratch
+  pub columns : table.Fresh (s .table)

@@ -5,3 +5,4 @@ pub mod Searching
 pub mod Laws
 pub mod Pushing
 pub mod Forgetting
+pub mod Decided

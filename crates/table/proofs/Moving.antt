@@ -51,22 +51,21 @@ moved-part d at len used b m h k l =
 
 -- ---- a column
 pub closed-none : (a : List ℕ) (j fall : ℕ) → Closed a j (j + 1) fall a
-closed-none a j fall = record { before = λ k l. refl; behind = λ k h l. absurd (let z : ⊥ = omega arith in z) }
+closed-none a j fall = record { before = λ k l. refl; behind = λ k h l. absurd (let z : ⊥ = omega arith in z); rest = λ k l. refl }
 
-module _ (a r : List ℕ) (j k fall v : ℕ) (h : j ≤ k) (inside : k < length r) (closed : Closed a j (k + 1) fall r)
-    (rest : (i : ℕ) → k ≤ i → getD r i 0 ≡ getD a i 0) where
-  pub closed-more : v ≡ getD r (k + 1) 0 - fall → Closed a j (k + 1 + 1) fall (set r k v)
-  closed-more e = record { before = before; behind = behind }
-    where
-      before : (i : ℕ) → i < j → getD (set r k v) i 0 ≡ getD a i 0
-      before i l = getD-set-other r k i v 0 (λ e. omega arith) ∙ closed .before i l
+pub closed-more : (a r : List ℕ) (j k fall v : ℕ) → j ≤ k → k < length r → Closed a j (k + 1) fall r → v ≡ getD r (k + 1) 0 - fall
+    → Closed a j (k + 1 + 1) fall (set r k v)
+closed-more a r j k fall v h inside closed e = record { before = before; behind = behind; rest = rest }
+  where
+    before : (i : ℕ) → i < j → getD (set r k v) i 0 ≡ getD a i 0
+    before i l = getD-set-other r k i v 0 (λ e. omega arith) ∙ closed .before i l
 
-      behind : (i : ℕ) → j ≤ i → i + 1 < k + 1 + 1 → getD (set r k v) i 0 ≡ getD a (i + 1) 0 - fall
-      behind i b l =
-          ⊎-elim
-          (λ e₂. rw e₂ (getD-set-same r k v 0 inside ∙ e ∙ ap (λ (x : ℕ). x - fall) (rest (k + 1) (omega arith))))
-          (λ (u : i < k). getD-set-other r k i v 0 (λ e. omega arith) ∙ closed .behind i b (omega arith))
-          (eq-or-lt-of-le (let m : i ≤ k = omega arith in m))
+    behind : (i : ℕ) → j ≤ i → i + 1 < k + 1 + 1 → getD (set r k v) i 0 ≡ getD a (i + 1) 0 - fall
+    behind i b l =
+        ⊎-elim
+        (λ e₂. rw e₂ (getD-set-same r k v 0 inside ∙ e ∙ ap (λ (x : ℕ). x - fall) (closed .rest (k + 1) (omega arith))))
+        (λ (u : i < k). getD-set-other r k i v 0 (λ e. omega arith) ∙ closed .behind i b (omega arith))
+        (eq-or-lt-of-le (let m : i ≤ k = omega arith in m))
 
-  pub closed-rest : (i : ℕ) → k + 1 ≤ i → getD (set r k v) i 0 ≡ getD a i 0
-  closed-rest i l = getD-set-other r k i v 0 (λ e. omega arith) ∙ rest i (omega arith)
+    rest : (i : ℕ) → k + 1 + 1 ≤ i + 1 → getD (set r k v) i 0 ≡ getD a i 0
+    rest i l = getD-set-other r k i v 0 (λ e. omega arith) ∙ closed .rest i (omega arith)

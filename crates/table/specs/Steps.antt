@@ -4,7 +4,7 @@ use mathlib.Core.Bool.{Bool, _||_}
 use mathlib.Core.List.{List, [], _∷_, _++_}
 use Prim.Native.Nat.{ℕ, _+_, _-_, _*_, _≤_, _<_}
 use lib.Dec.{eqb}
-use lib.ListN.{drop, getD}
+use lib.ListN.{drop, getD, replicate}
 use Rattle.limits.specs.Limits.{storedPolynomials, termWords}
 use Rattle.terms.specs.Terms.{decode}
 use Rattle.paper.specs.Rules.{remove}
@@ -39,15 +39,19 @@ pub record Closable (column : List ℕ) (j n fall : ℕ) : Type 0 where
   pub few : n ≤ storedPolynomials
   pub least : (k : ℕ) → j < k → k < n → fall ≤ getD column k 0
 
--- of the first n those behind j stand one place lower, each less by fall
+-- of the first n those behind j stand one place lower, each less by fall; the last place and those past it are as they were
 pub record Closed (column : List ℕ) (j n fall : ℕ) (r : List ℕ) : Type 0 where
   pub before : (k : ℕ) → k < j → getD r k 0 ≡ getD column k 0
   pub behind : (k : ℕ) → j ≤ k → k + 1 < n → getD r k 0 ≡ getD column (k + 1) 0 - fall
+  pub rest : (k : ℕ) → n ≤ k + 1 → getD r k 0 ≡ getD column k 0
 
 pub record Fresh (r : Table) : Type 0 where
   pub store : (pool : List ℕ) → storeOf r pool ≡ []
   pub packed : Packed r
   pub used : r .used ≡ 0
+  pub indices : r .indices ≡ replicate storedPolynomials 0
+  pub starts : r .starts ≡ replicate storedPolynomials 0
+  pub counts : r .counts ≡ replicate storedPolynomials 0
 
 -- the terms behind the used ones are the last entry
 pub record Pushed (s : Table) (index terms : ℕ) (r : Table) : Type 0 where

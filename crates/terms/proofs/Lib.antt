@@ -11,3 +11,4 @@ pub mod Products
 pub mod Runs
 pub mod Places
 pub mod Gathering
+pub mod Decided

@@ -14,7 +14,7 @@ use lib.Count.{ones, ones-step, ones-le, trailingZeros, under}
 use lib.Dec.{eqb, ltb}
 use lib.ListN.{length, take, drop, getD, set}
 use lib.Pow.{pow-add, shr-shr, high, low, field, mod-mod-pow}
-use lib.Seq.{drop-cons, take-nil, length-take-le}
+use lib.Seq.{getD-drop, drop-cons, take-nil, length-take-le}
 use mir.Val.{Fits}
 use mir.Syntax.{w64}
 use borrow.Author.Tests.{ltb-true, ltb-false, eqb-true, eqb-false, lt-ltb, le-ltb, eq-eqb, ne-eqb}
@@ -28,6 +28,9 @@ use Rattle.words.specs.declared.Order.the-variants.{Less, Equal, Greater
 -- each is below 2 ^ 64
 abbrev pub Words : List ℕ → Type 0
 Words ws = (i : ℕ) → Fits w64 (getD ws i 0)
+
+pub words-drop : (n : ℕ) (ws : List ℕ) → Words ws → Words (drop n ws)
+words-drop n ws f i = subst (λ (x : ℕ). Fits w64 x) (sym (getD-drop n ws i 0)) (f (n + i))
 
 pub words-take : (n : ℕ) (ws : List ℕ) → Words ws → Words (take n ws)
 words-take zero ws f i = record { fits = omega arith }

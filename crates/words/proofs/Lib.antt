@@ -2,3 +2,4 @@ pub mod Parts
 pub mod Wrap
 pub mod Laws
 pub mod WordByWord
+pub mod Decided

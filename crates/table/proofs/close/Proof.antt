@@ -1,20 +1,19 @@
--- `table::close` meets its contract. The loop's invariant: below k the column is closed, and from k on as it was.
+-- `table::close` meets its contract. The loop's invariant: the column is closed up to k.
 -- The measure is the count of numbers left. Assumes nothing.
 use mathlib.Core.Path.{_≡_, refl}
 use Prim.Native.Nat.{ℕ, _+_, _-_, _≤_, _<_}
 use native.Mathlib.Omega.{arith}
-use lib.ListN.{length, getD}
+use lib.ListN.{length}
 use borrow.Author.Needs.{needs}
 use Rattle.limits.specs.Limits.{storedPolynomials}
 use Rattle.table.specs.Steps.{Closed}
-use Rattle.table.proofs.Moving.{closed-none, closed-more, closed-rest}
+use Rattle.table.proofs.Moving.{closed-none, closed-more}
 use Rattle.table.proofs.close.Statement.{statement}
 use Rattle.table.proofs.close.Tie as tie
 
 abbrev Inv-loop : tie.InvT-loop
 Inv-loop column₀ j n fall gone k₀ column k =
     (j ≤ k) × (k + 1 ≤ n) × (length column ≡ storedPolynomials) × Closed column₀ j (k + 1) fall column
-    × ((i : ℕ) → k ≤ i → getD column i 0 ≡ getD column₀ i 0)
 
 abbrev μ-loop : tie.MeasureT-loop
 μ-loop column₀ j n fall gone k₀ column k = n - k
@@ -26,7 +25,7 @@ element-copy-out-gone : tie.Need-element-copy-out-gone Inv-loop μ-loop
 element-copy-out-gone c = search needs
 
 loop-holds : tie.Need-loop-holds Inv-loop μ-loop
-loop-holds c = (search needs, search needs, search needs, closed-none (c .before .args .column .now) (c .before .args .j) (c .before .args .fall), λ i h. refl)
+loop-holds c = (search needs, search needs, search needs, closed-none (c .before .args .column .now) (c .before .args .j) (c .before .args .fall))
 
 add-loop : tie.Need-add-loop Inv-loop μ-loop
 add-loop c = search needs
@@ -44,7 +43,7 @@ sub-column : tie.Need-sub-column Inv-loop μ-loop
 sub-column c =
     let loop = c .before .before .loop in
     let k : ℕ = loop .k in
-    omega (arith, loop .inv .4 (k + 1) (omega arith), c .before .before .before .before .pre .1 .least (k + 1) (omega arith) (omega arith))
+    omega (arith, loop .inv .3 .rest (k + 1) (omega arith), c .before .before .before .before .pre .1 .least (k + 1) (omega arith) (omega arith))
 
 mul-column-2 : tie.Need-mul-column-2 Inv-loop μ-loop
 mul-column-2 c = search needs
@@ -66,8 +65,7 @@ loop-again c =
       omega arith,
       omega arith,
       search needs,
-      closed-more (args .column .now) (loop .column) (args .j) (loop .k) (args .fall) _ (loop .inv .0) inside (loop .inv .3) (loop .inv .4) refl,
-      closed-rest (args .column .now) (loop .column) (args .j) (loop .k) (args .fall) _ (loop .inv .0) inside (loop .inv .3) (loop .inv .4),
+      closed-more (args .column .now) (loop .column) (args .j) (loop .k) (args .fall) _ (loop .inv .0) inside (loop .inv .3) refl,
     )
 
 returns : tie.Need-returns Inv-loop μ-loop

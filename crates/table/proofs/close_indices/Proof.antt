@@ -1,27 +1,26 @@
--- `table::close_indices` meets its contract. The loop's invariant: below k the column is closed, and from k on as it was.
+-- `table::close_indices` meets its contract. The loop's invariant: the column is closed up to k.
 -- The measure is the count of numbers left. Assumes nothing.
-use mathlib.Core.Path.{_≡_, refl, sym}
-use Prim.Native.Nat.{ℕ, _+_, _-_, _≤_, _<_}
+use mathlib.Core.Path.{_≡_, sym}
+use Prim.Native.Nat.{_+_, _-_, _≤_, _<_}
 use native.Mathlib.Nat.{sub-zero}
 use native.Mathlib.Omega.{arith}
-use lib.ListN.{length, getD}
+use lib.ListN.{length}
 use borrow.Author.Needs.{needs}
 use Rattle.limits.specs.Limits.{storedPolynomials}
 use Rattle.table.specs.Steps.{Closed}
-use Rattle.table.proofs.Moving.{closed-none, closed-more, closed-rest}
+use Rattle.table.proofs.Moving.{closed-none, closed-more}
 use Rattle.table.proofs.close_indices.Statement.{statement}
 use Rattle.table.proofs.close_indices.Tie as tie
 
 abbrev Inv-loop : tie.InvT-loop
 Inv-loop column₀ j n k₀ column k =
     (j ≤ k) × (k + 1 ≤ n) × (length column ≡ storedPolynomials) × Closed column₀ j (k + 1) 0 column
-    × ((i : ℕ) → k ≤ i → getD column i 0 ≡ getD column₀ i 0)
 
 abbrev μ-loop : tie.MeasureT-loop
 μ-loop column₀ j n k₀ column k = n - k
 
 loop-holds : tie.Need-loop-holds Inv-loop μ-loop
-loop-holds c = (search needs, search needs, search needs, closed-none (c .args .column .now) (c .args .j) 0, λ i h. refl)
+loop-holds c = (search needs, search needs, search needs, closed-none (c .args .column .now) (c .args .j) 0)
 
 add-loop : tie.Need-add-loop Inv-loop μ-loop
 add-loop c = search needs
@@ -55,8 +54,7 @@ loop-again c =
       omega arith,
       omega arith,
       search needs,
-      closed-more (args .column .now) (loop .column) (args .j) (loop .k) 0 _ (loop .inv .0) inside (loop .inv .3) (loop .inv .4) (sym (sub-zero _)),
-      closed-rest (args .column .now) (loop .column) (args .j) (loop .k) 0 _ (loop .inv .0) inside (loop .inv .3) (loop .inv .4),
+      closed-more (args .column .now) (loop .column) (args .j) (loop .k) 0 _ (loop .inv .0) inside (loop .inv .3) (sym (sub-zero _)),
     )
 
 returns : tie.Need-returns Inv-loop μ-loop
