@@ -1,34 +1,36 @@
 // The pairs of a lin line: whether they name stored polynomials, and the products of their factors with these.
 ghost use mathlib.Core.Path.{_≡_};
+ghost use mathlib.Core.Bool.{cond};
 ghost use mathlib.Core.List.{List, map};
 ghost use Prim.Native.Nat.{ℕ, _+_, _*_, _≤_, _<_};
 ghost use lib.ListN.{length, drop};
 ghost use Rattle.ground.specs.Lists.{every};
 ghost use Rattle.limits.specs.Limits.{storedPolynomials, fieldTerms, lineProducts, termWords, leastScratch};
+ghost use Rattle.limits.specs.Verdicts.{MISSING};
 ghost use Rattle.algebra.specs.Polynomial.{products};
 ghost use Rattle.words.specs.Words.{number};
 ghost use Rattle.terms.specs.Terms.{decode, rounded, Appended};
 ghost use Rattle.paper.specs.Statement.{Pair};
-ghost use Rattle.paper.specs.Rules.{stored, find};
+ghost use Rattle.paper.specs.Rules.{stored};
 ghost use Rattle.paper.specs.Grammar.{decimal};
 ghost use Rattle.reader.specs.Places.{Got};
 ghost use Rattle.fields.specs.Fields.{Good};
 ghost use Rattle.table.specs.Table.{polyAt, firsts, entryAt};
 ghost use Rattle.regions.specs.Regions.{factorAt, goalAt};
-ghost use Rattle.pairs.specs.Pairs.{isSmall, PairsAt, StoredPairs, PoolHolds, Summed, Names, PlaceOf, Lies, Extended, PairAdded};
+ghost use Rattle.pairs.specs.Pairs.{isSmall, PairsAt, PoolHolds, Summed, Lies, Extended, PairAdded};
 use table::Column;
 use table::Found;
 use table::Indices;
 use words::Set;
 
-// Too many products, or how many there are and the variables that the factors make seen.
+// How the pairs are refused, or how many products there are and the variables that the factors make seen.
 pub struct Sum {
-    pub over: bool,
+    pub verdict: u64,
     pub terms: usize,
     pub seen: Set,
 }
 
-// A sum with one pair more, and the end of this pair.
+// A sum with one pair more, and the end of this pair; or the tab before a pair that names no stored polynomial.
 pub struct Added {
     pub sum: Sum,
     pub end: usize,
@@ -37,12 +39,6 @@ pub struct Added {
 // A number that half a word holds, and its end.
 pub struct Small {
     pub value: u32,
-    pub end: usize,
-}
-
-// Where the polynomial that an index names stands in the columns, and the end of the index.
-pub struct Place {
-    pub place: usize,
     pub end: usize,
 }
 
@@ -59,7 +55,7 @@ pub fn small_at(line: &[u8], at: usize) -> Small
 }
 
 // Whether every pair from the tab at at on names one of the first n indices of a column.
-pub fn all_stored(indices: &Indices, n: usize, line: &[u8], at: usize) -> bool
+fn all_stored(indices: &Indices, n: usize, line: &[u8], at: usize) -> bool
     requires { ⌜ (n ≤ storedPolynomials) × ((qs : List Pair) × PairsAt (now line) at qs) ⌝ }
     ensures { λ r. ⌜
         ((qs : List Pair) → PairsAt (now (line .entry)) at qs → (starts counts pool : List ℕ)
@@ -96,17 +92,15 @@ fn append_products(scratch: &mut [u64], n: usize, f: usize, b: &[u64], m: usize)
     }
 }
 
-// The place of the polynomial that the index at at names.
-fn place_of(indices: &Indices, n: usize, line: &[u8], at: usize) -> Place
-    requires { ⌜ (n ≤ storedPolynomials) × Names (now indices) n (now line) at ⌝ }
-    ensures { λ r. ⌜ PlaceOf (now (indices .entry)) n (now (line .entry)) at r ⌝ }
+// Pairs that are refused.
+fn refusal(verdict: u64, seen: Set) -> Sum
+    ensures { λ r. ⌜ r ≡ record { verdict = verdict; terms = 0; seen = seen } ⌝ }
 {
-    let x = small_at(line, at);
-    let f = table::find(indices, n, x.value);
-    let Found::At(place) = f else {
-        return Place { place: 0, end: at };
-    };
-    Place { place, end: x.end }
+    Sum {
+        verdict,
+        terms: 0,
+        seen,
+    }
 }
 
 // Puts the products of the f terms of the factor's region with the j-th polynomial behind the terms from word 0 on, unless there are too many.
@@ -117,35 +111,31 @@ fn add_products<'a>(
     pool: &[u64],
     scratch: &mut [u64],
     f: usize,
-    terms: usize,
-    seen: Set,
+    sum: Sum,
 ) -> Sum
     requires { ⌜
-        Lies (now starts) (now counts) (now pool) j × (f ≤ fieldTerms) × (terms ≤ lineProducts)
+        Lies (now starts) (now counts) (now pool) j × (f ≤ fieldTerms) × (sum .terms ≤ lineProducts)
         × (leastScratch ≤ length (now scratch))
         ⌝ }
-    ensures { λ r. ⌜ Extended (decode f (drop factorAt (now (scratch .entry)))) (polyAt (now (starts .entry)) (now (counts .entry)) (now (pool .entry)) j) terms (number seen) (now (scratch .entry)) (now (scratch .exit)) r ⌝ }
+    ensures { λ r. ⌜ Extended (decode f (drop factorAt (now (scratch .entry)))) (polyAt (now (starts .entry)) (now (counts .entry)) (now (pool .entry)) j) (sum .terms) (number (sum .seen)) (now (scratch .entry)) (now (scratch .exit)) r ⌝ }
 {
     let m = counts[j] as usize;
-    let count = terms + f * m;
+    let count = sum.terms + f * m;
+    let seen = sum.seen;
     if limits::LINE_PRODUCTS < count {
-        return Sum {
-            over: true,
-            terms,
-            seen,
-        };
+        return refusal(limits::PRODUCTS, seen);
     }
     let start = starts[j] as usize * limits::TERM_WORDS;
-    append_products(scratch, terms, f, &pool[start..], m);
+    append_products(scratch, sum.terms, f, &pool[start..], m);
     let variables = terms::variables(&scratch[regions::FACTOR..], f);
     Sum {
-        over: false,
+        verdict: limits::ACCEPTED,
         terms: count,
         seen: words::union(variables, seen),
     }
 }
 
-// Puts the products of the pair behind the tab at at behind the terms from word 0 on, unless there are too many.
+// Puts the products of the pair behind the tab at at behind the terms from word 0 on, unless it names no stored polynomial or there are too many.
 fn add_pair<'a>(
     indices: &'a Indices,
     starts: &'a Column,
@@ -159,32 +149,46 @@ fn add_pair<'a>(
     sum: Sum,
 ) -> Added
     requires { ⌜
-        StoredPairs (firsts (entryAt (now indices) (now starts) (now counts) (now pool)) n) (now line) at
-        × (at < length (now line)) × PoolHolds (now starts) (now counts) n (now pool)
-        × (leastScratch ≤ length (now scratch)) × (1 ≤ k) × (k ≤ 64) × (sum .terms ≤ lineProducts)
+        ((qs : List Pair) × PairsAt (now line) at qs) × (at < length (now line))
+        × PoolHolds (now starts) (now counts) n (now pool) × (leastScratch ≤ length (now scratch))
+        × (1 ≤ k) × (k ≤ 64) × (sum .terms ≤ lineProducts)
         ⌝ }
-    ensures { λ r. ⌜ PairAdded k (find (firsts (entryAt (now (indices .entry)) (now (starts .entry)) (now (counts .entry)) (now (pool .entry))) n)) (now (line .entry)) at (sum .terms) (number (sum .seen)) (now (scratch .entry)) (now (scratch .exit)) r ⌝ }
+    ensures { λ r. ⌜ PairAdded k (firsts (entryAt (now (indices .entry)) (now (starts .entry)) (now (counts .entry)) (now (pool .entry))) n) (now (line .entry)) at (sum .terms) (number (sum .seen)) (now (scratch .entry)) (now (scratch .exit)) r ⌝ }
 {
-    let p = place_of(indices, n, line, at + 1);
-    let f = regions::read_reduced(line, p.end + 1, scratch, regions::FACTOR, k);
-    let seen = sum.seen;
-    let more = add_products(
-        starts,
-        counts,
-        p.place,
-        pool,
-        scratch,
-        f.terms,
-        sum.terms,
-        seen,
-    );
+    let x = small_at(line, at + 1);
+    let found = table::find(indices, n, x.value);
+    let Found::At(place) = found else {
+        let seen = sum.seen;
+        return Added {
+            sum: refusal(limits::MISSING, seen),
+            end: at,
+        };
+    };
+    let f = regions::read_reduced(line, x.end + 1, scratch, regions::FACTOR, k);
+    let more = add_products(starts, counts, place, pool, scratch, f.terms, sum);
     Added {
         sum: more,
         end: f.end,
     }
 }
 
-// Writes the products of the pairs from the tab at at on from word 0 of the scratch on.
+// The sum that ended at the end of a, or MISSING if a pair from there on names no stored polynomial.
+fn stopped(indices: &Indices, n: usize, line: &[u8], a: Added) -> Sum
+    requires { ⌜ (n ≤ storedPolynomials) × ((qs : List Pair) × PairsAt (now line) (a .end) qs) ⌝ }
+    ensures { λ r. ⌜
+        ((qs : List Pair) → PairsAt (now (line .entry)) (a .end) qs → (starts counts pool : List ℕ)
+        → r .verdict ≡ cond (every (stored (firsts (entryAt (now (indices .entry)) starts counts pool) n)) (map (λ q. q .index) qs)) (a .sum .verdict) MISSING)
+        ⌝ }
+{
+    let sum = a.sum;
+    if all_stored(indices, n, line, a.end) {
+        return sum;
+    }
+    let seen = sum.seen;
+    refusal(limits::MISSING, seen)
+}
+
+// Writes the products of the pairs from the tab at at on from word 0 of the scratch on, unless one names no stored polynomial or there are too many.
 pub fn sum_pairs<'a>(
     indices: &'a Indices,
     starts: &'a Column,
@@ -198,27 +202,26 @@ pub fn sum_pairs<'a>(
     seen: Set,
 ) -> Sum
     requires { ⌜
-        StoredPairs (firsts (entryAt (now indices) (now starts) (now counts) (now pool)) n) (now line) at
-        × PoolHolds (now starts) (now counts) n (now pool)
+        ((qs : List Pair) × PairsAt (now line) at qs) × PoolHolds (now starts) (now counts) n (now pool)
         × (leastScratch ≤ length (now scratch)) × (1 ≤ k) × (k ≤ 64)
         ⌝ }
     ensures { λ r. ⌜
         ((qs : List Pair) → PairsAt (now (line .entry)) at qs
-        → Summed k (find (firsts (entryAt (now (indices .entry)) (now (starts .entry)) (now (counts .entry)) (now (pool .entry))) n)) qs (number seen) (now (scratch .entry)) (now (scratch .exit)) r)
+        → Summed k (firsts (entryAt (now (indices .entry)) (now (starts .entry)) (now (counts .entry)) (now (pool .entry))) n) qs (number seen) (now (scratch .entry)) (now (scratch .exit)) r)
         ⌝ }
 {
     let mut sum = Sum {
-        over: false,
+        verdict: limits::ACCEPTED,
         terms: 0,
         seen,
     };
     let mut i = at;
     while i < line.len() {
         let a = add_pair(indices, starts, counts, n, line, i, pool, scratch, k, sum);
-        sum = a.sum;
-        if sum.over {
-            return sum;
+        if a.sum.verdict != limits::ACCEPTED {
+            return stopped(indices, n, line, a);
         }
+        sum = a.sum;
         i = a.end;
     }
     sum

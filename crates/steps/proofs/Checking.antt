@@ -5,6 +5,7 @@ use mathlib.Core.List.{List, [], map}
 use Prim.Native.Nat.{ℕ, _*_, _^_, _≤_, _<_}
 use native.Mathlib.Omega.{arith}
 use lib.Bits.{bitOr}
+use lib.Dec.{ltb}
 use lib.ListN.{length, drop}
 use borrow.Author.Tests.{lt-ltb, le-ltb}
 use Rattle.ground.specs.Lists.{every}
@@ -88,6 +89,17 @@ module _ (k v n : ℕ) (seen : List ℕ) (s : List ℕ) where
         }
 
 -- ---- lin
+-- a verdict of the pairs comes before a later one, and none leaves it
+refused-before : (present over : Bool) (v later : ℕ) → (v ≡ 0 → ⊥) → v ≡ cond (not present) MISSING (cond over PRODUCTS 0) → v ≡ cond (not present) MISSING (cond over PRODUCTS later)
+refused-before false over v later l e = e
+refused-before true true v later l e = e
+refused-before true false v later l e = absurd (l e)
+
+not-refused : (present over : Bool) (later : ℕ) → 0 ≡ cond (not present) MISSING (cond over PRODUCTS 0) → later ≡ cond (not present) MISSING (cond over PRODUCTS later)
+not-refused false over later e = absurd (let z : ⊥ = omega (arith, e) in z)
+not-refused true true later e = absurd (let z : ⊥ = omega (arith, e) in z)
+not-refused true false later e = refl
+
 module _ (k : ℕ) (store : Store) (qs : List Pair) (n : ℕ) (seen : List ℕ) (s : List ℕ) where
   abbrev pub Adding : List ℕ → Checked → Type 0
   Adding r c = Sums k store qs n (number seen) s r c
@@ -98,58 +110,48 @@ module _ (k : ℕ) (store : Store) (qs : List Pair) (n : ℕ) (seen : List ℕ) 
   abbrev sum : Bool
   sum = equal (decode n (drop statedAt s)) (reduce k (combination k (find store) qs))
 
-  halted : (r : List ℕ) (why : ℕ) → 0 < why → why ≡ sums present (productsOf k (find store) qs) sum 0 → decode n (drop statedAt r) ≡ decode n (drop statedAt s)
+  halted : (r : List ℕ) (why : ℕ) → (why ≡ 0 → ⊥) → why ≡ sums present (productsOf k (find store) qs) sum 0 → decode n (drop statedAt r) ≡ decode n (drop statedAt s)
       → drop goalAt r ≡ drop goalAt s → length r ≡ length s
       → {c : Checked} → c ≡ record { verdict = why; terms = 0; seen = seen } → Adding r c
   halted r why l e d g h q = subst (Adding r) (sym q) (record {
     verdict = e;
-    count = λ z. absurd (let y : ⊥ = omega arith in y);
-    most = λ z. absurd (let y : ⊥ = omega arith in y);
+    count = λ z. absurd (l z);
+    most = λ z. absurd (l z);
     run = d;
-    seen = λ z. absurd (let y : ⊥ = omega arith in y);
+    seen = λ z. absurd (l z);
     goal = g;
     same = h;
   })
 
-  module _ {t : Bool} (e : t ≡ present) where
-    pub sums-missing : t ≡ false → {c : Checked} → c ≡ record { verdict = MISSING; terms = 0; seen = seen } → Adding s c
-    sums-missing h = halted s MISSING (omega arith) (ap (λ (b : Bool). sums b (productsOf k (find store) qs) sum 0) (sym h ∙ e)) refl refl refl
+  module _ (few : n ≤ fieldTerms) (x : List ℕ) (u : Sum) (a : Summed k store qs (number seen) s x u) where
+    pub sums-refused : (u .verdict ≡ 0 → ⊥) → {c : Checked} → c ≡ record { verdict = u .verdict; terms = 0; seen = seen } → Adding x c
+    sums-refused l =
+        halted x (u .verdict) l (refused-before present (ltb lineProducts (productsOf k (find store) qs)) (u .verdict) (cond (not sum) MISMATCH 0) l (a .verdict))
+        (a .stated n (omega arith)) (a .goal) (a .same)
 
-    module _ (h : t ≡ true) (few : n ≤ fieldTerms) (x : List ℕ) (u : Sum) (a : Summed k (find store) qs (number seen) s x u) where
-      named : (m : ℕ) (b : Bool) → sums true m b 0 ≡ sums present m b 0
-      named m b = ap (λ (y : Bool). sums y m b 0) (sym h ∙ e)
+    module _ (o : u .verdict ≡ 0) (kk : k ≤ greatestRing) (r : List ℕ) {b : Bool} (w : Within 0 statedAt x r) (d : b ≡ equal (decode n (drop statedAt x)) (reduce k (decode (u .terms) x))) where
+      counted-sum : (y : Bool) → cond (not y) MISMATCH 0 ≡ sums present (productsOf k (find store) qs) y 0
+      counted-sum y = not-refused present (ltb lineProducts (productsOf k (find store) qs)) (cond (not y) MISMATCH 0) (sym o ∙ a .verdict)
 
-      pub sums-many : u .over ≡ true → {c : Checked} → c ≡ record { verdict = PRODUCTS; terms = 0; seen = seen } → Adding x c
-      sums-many o = halted x PRODUCTS (omega arith)
-          (sym (ap (λ (y : Bool). cond y PRODUCTS (cond (not sum) MISMATCH 0)) (lt-ltb lineProducts (productsOf k (find store) qs) (a .over o))) ∙ named (productsOf k (find store) qs) sum)
-          (a .stated n (omega arith)) (a .goal) (a .same)
+      same-sum : b ≡ sum
+      same-sum = d ∙ ap₂ equal (a .stated n (omega arith)) (ap (reduce k) (a .run o) ∙ reduce-rounded k kk [] (combination k (find store) qs))
 
-      module _ (o : u .over ≡ false) (kk : k ≤ greatestRing) (r : List ℕ) {b : Bool} (w : Within 0 statedAt x r) (d : b ≡ equal (decode n (drop statedAt x)) (reduce k (decode (u .terms) x))) where
-        counted-sum : (y : Bool) → sums true 0 y 0 ≡ sums present (productsOf k (find store) qs) y 0
-        counted-sum y =
-            let c = a .count o in
-            let m = a .most o in
-            sym (ap (λ (z : Bool). cond z PRODUCTS (cond (not y) MISMATCH 0)) (le-ltb lineProducts (productsOf k (find store) qs) (omega arith))) ∙ named (productsOf k (find store) qs) y
+      kept : decode n (drop statedAt r) ≡ decode n (drop statedAt s)
+      kept = decode-above n statedAt 0 statedAt x r w (omega arith) ∙ a .stated n (omega arith)
 
-        same-sum : b ≡ sum
-        same-sum = d ∙ ap₂ equal (a .stated n (omega arith)) (ap (reduce k) (a .run o) ∙ reduce-rounded k kk [] (combination k (find store) qs))
+      kept-goal : drop goalAt r ≡ drop goalAt s
+      kept-goal = drop-more statedAt goalAt x r (omega arith) (w .after) ∙ a .goal
 
-        kept : decode n (drop statedAt r) ≡ decode n (drop statedAt s)
-        kept = decode-above n statedAt 0 statedAt x r w (omega arith) ∙ a .stated n (omega arith)
+      pub sums-differ : b ≡ false → {c : Checked} → c ≡ record { verdict = MISMATCH; terms = 0; seen = seen } → Adding r c
+      sums-differ z = halted r MISMATCH (λ e. omega (arith, e)) (ap (λ (y : Bool). cond (not y) MISMATCH 0) (sym z ∙ same-sum) ∙ counted-sum sum) kept kept-goal (w .same ∙ a .same)
 
-        kept-goal : drop goalAt r ≡ drop goalAt s
-        kept-goal = drop-more statedAt goalAt x r (omega arith) (w .after) ∙ a .goal
-
-        pub sums-differ : b ≡ false → {c : Checked} → c ≡ record { verdict = MISMATCH; terms = 0; seen = seen } → Adding r c
-        sums-differ z = halted r MISMATCH (omega arith) (ap (λ (y : Bool). sums true 0 y 0) (sym z ∙ same-sum) ∙ counted-sum sum) kept kept-goal (w .same ∙ a .same)
-
-        pub sums-all : b ≡ true → Adding r (record { verdict = 0; terms = u .terms; seen = u .seen })
-        sums-all z = record {
-          verdict = ap (λ (y : Bool). sums true 0 y 0) (sym z ∙ same-sum) ∙ counted-sum sum;
-          count = λ _. a .count o;
-          most = λ _. a .most o;
-          run = kept;
-          seen = λ _. a .seen o;
-          goal = kept-goal;
-          same = w .same ∙ a .same;
-        }
+      pub sums-all : b ≡ true → Adding r (record { verdict = 0; terms = u .terms; seen = u .seen })
+      sums-all z = record {
+        verdict = ap (λ (y : Bool). cond (not y) MISMATCH 0) (sym z ∙ same-sum) ∙ counted-sum sum;
+        count = λ _. a .count o;
+        most = λ _. a .most o;
+        run = kept;
+        seen = λ _. a .seen o;
+        goal = kept-goal;
+        same = w .same ∙ a .same;
+      }

@@ -137,12 +137,9 @@ pub(crate) fn add_up<'a>(
         → Sums k (firsts (entryAt (now (indices .entry)) (now (starts .entry)) (now (counts .entry)) (now (pool .entry))) n) qs stated (number seen) (now (scratch .entry)) (now (scratch .exit)) r)
         ⌝ }
 {
-    if !pairs::all_stored(indices, n, line, at) {
-        return refusal(limits::MISSING, seen);
-    }
     let sum = pairs::sum_pairs(indices, starts, counts, n, line, at, pool, scratch, k, seen);
-    if sum.over {
-        return refusal(limits::PRODUCTS, seen);
+    if sum.verdict != limits::ACCEPTED {
+        return refusal(sum.verdict, seen);
     }
     if !is_reduced(scratch, stated, sum.terms, k) {
         return refusal(limits::MISMATCH, seen);

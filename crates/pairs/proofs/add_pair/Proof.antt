@@ -1,61 +1,91 @@
--- `pairs::add_pair` meets its contract: the place of the index, the factor reduced, its products made. No loop.
+-- `pairs::add_pair` meets its contract: the index looked up, the factor reduced, its products made. No loop.
 -- Assumes nothing.
 use native.Mathlib.Omega.{arith}
 use Rattle.words.specs.Words.{number}
-use Rattle.pairs.proofs.Adding.{head-names, head-factor, pair-added, place-lies}
+use Rattle.table.proofs.Laws.{found-at, found-nothing}
+use Rattle.pairs.proofs.Adding.{head-index, head-factor, pair-missing, pair-added, place-lies}
 use borrow.Author.Needs.{needs}
 use Rattle.pairs.proofs.add_pair.Statement.{statement}
 use Rattle.pairs.proofs.add_pair.Tie as tie
 
-add-place-of : tie.Need-add-place-of
-add-place-of c = search needs
+add-small-at : tie.Need-add-small-at
+add-small-at c = search needs
 
-place-of-requires : tie.Need-place-of-requires
-place-of-requires c κs =
+small-at-requires : tie.Need-small-at-requires
+small-at-requires c κs =
     let b = c .before .before .before in
     let a = b .args in
-    (b .pre .2 .1 .few, head-names (a .indices .now) (a .starts .now) (a .counts .now) (a .pool .now) (a .n) (a .line .now) (a .at) (b .pre .0) (b .pre .1))
+    head-index (a .indices .now) (a .starts .now) (a .counts .now) (a .pool .now) (a .n) (a .line .now) (a .at) (b .pre .0 .0) (b .pre .0 .1) (b .pre .1)
+
+find-requires : tie.Need-find-requires
+find-requires c κs = search needs
+
+enum-known-found : tie.Need-enum-known-found
+enum-known-found c = search needs
+
+enum-told : tie.Need-enum-told
+enum-told c = search needs
+
+refusal-requires : tie.Need-refusal-requires
+refusal-requires c κs = search needs
+
+returns : tie.Need-returns
+returns c =
+    let f = c .before .before .before .before in
+    let t = f .before .small-at in
+    let b = f .before .before .before .before .before in
+    let a = b .args in
+    pair-missing (a .indices .now) (a .starts .now) (a .counts .now) (a .pool .now) (a .n) (a .line .now) (a .at) (b .pre .0 .0) (b .pre .0 .1) (b .pre .1) (t .result .value) (t .result .end) (t .ensures)
+    (found-nothing (c .before .before .enum-told .given .1) (f .find .ensures)) (a .k) (a .sum .terms) (number (a .sum .seen)) (a .scratch .now) (a .sum .seen) (c .refusal .ensures)
 
 add-read-reduced : tie.Need-add-read-reduced
 add-read-reduced c = search needs
 
 read-reduced-requires : tie.Need-read-reduced-requires
 read-reduced-requires c κs =
-    let p = c .before .before .place-of in
-    let b = c .before .before .before .before .before .before in
+    let t = c .before .before .before .before .before .before .small-at in
+    let b = c .before .before .before .before .before .before .before .before .before .before in
     let a = b .args in
-    let f = head-factor (a .indices .now) (a .starts .now) (a .counts .now) (a .pool .now) (a .n) (a .line .now) (a .at) (b .pre .0) (b .pre .1) (p .ensures .index) (p .result .end) (p .ensures .taken) in
+    let f = head-factor (a .indices .now) (a .starts .now) (a .counts .now) (a .pool .now) (a .n) (a .line .now) (a .at) (b .pre .0 .0) (b .pre .0 .1) (b .pre .1) (t .result .value) (t .result .end) (t .ensures) in
     (f .1, omega (arith, b .pre .3), b .pre .4, b .pre .5)
 
 add-products-requires : tie.Need-add-products-requires
 add-products-requires c κs =
-    let f = c .before .before .before .before .read-reduced in
-    let p = c .before .before .before .before .before .before .before .place-of in
-    let b = c .before .before .before .before .before .before .before .before .before .before .before in
+    let f = c .before .before .before .read-reduced in
+    let o = c .before .before .before .before .before .before .before .before .before in
+    let b = c .before .before .before .before .before .before .before .before .before .before .before .before .before .before in
     let a = b .args in
-    (place-lies (a .starts .now) (a .counts .now) (a .pool .now) (a .n) (p .result .place) (b .pre .2) (p .ensures .first .inside), f .ensures .few, b .pre .6, omega (arith, b .pre .3, f .ensures .within .same))
+    let p = found-at (c .before .before .before .before .before .before .before .found .given .1) (o .find .ensures) in
+    (place-lies (a .starts .now) (a .counts .now) (a .pool .now) (a .n) _ (b .pre .2) (p .inside), f .ensures .few, b .pre .6, omega (arith, b .pre .3, f .ensures .within .same))
 
 same-length : tie.Need-same-length
 same-length c = search needs
 
-returns : tie.Need-returns
-returns c =
+returns-2 : tie.Need-returns-2
+returns-2 c =
     let m = c .before .before .add-products in
-    let f = c .before .before .before .before .before .before .before .read-reduced in
-    let p = c .before .before .before .before .before .before .before .before .before .before .place-of in
-    let b = c .before .before .before .before .before .before .before .before .before .before .before .before .before .before in
+    let f = c .before .before .before .before .before .before .read-reduced in
+    let o = c .before .before .before .before .before .before .before .before .before .before .before .before in
+    let t = o .before .small-at in
+    let b = o .before .before .before .before .before in
     let a = b .args in
-    pair-added (a .indices .now) (a .starts .now) (a .counts .now) (a .pool .now) (a .n) (a .line .now) (a .at) (b .pre .0) (b .pre .1) (a .k) (a .sum .terms) (number (a .sum .seen))
-    (a .scratch .now) (f .last .1 .1 .0) (m .last .1 .1 .1 .1 .0) (p .result) (f .result) (m .result) (b .pre .6) (p .ensures) (f .ensures) (m .ensures)
+    pair-added (a .indices .now) (a .starts .now) (a .counts .now) (a .pool .now) (a .n) (a .line .now) (a .at) (b .pre .0 .0) (b .pre .0 .1) (b .pre .1) (t .result .value) (t .result .end) (t .ensures)
+    _ (a .k) (a .sum .terms) (number (a .sum .seen)) (a .scratch .now) (f .last .1 .1 .0) (m .last .1 .1 .1 .1 .0) (f .result) (m .result) (b .pre .6)
+    (found-at (c .before .before .before .before .before .before .before .before .before .before .found .given .1) (o .find .ensures)) (f .ensures) (m .ensures)
 
 pub add-pair-spec : {M : Type 1} → statement M
 add-pair-spec =
     tie.close
     (tie.spec
-    add-place-of
-    place-of-requires
+    add-small-at
+    small-at-requires
+    find-requires
+    enum-known-found
+    enum-told
+    refusal-requires
+    returns
     add-read-reduced
     read-reduced-requires
     add-products-requires
     same-length
-    returns)
+    returns-2)

@@ -26,13 +26,16 @@ mul-count c =
 
 add-count : tie.Need-add-count
 add-count c =
-    let b = c .before .before .before in
+    let b = c .before .before .before .before in
     record { fits = omega (arith, rows-few (b .args .f) (getD (b .args .counts .now) (b .args .j) 0) (b .pre .1) (b .pre .0 .few)) }
+
+refusal-requires : tie.Need-refusal-requires
+refusal-requires c κs = search needs
 
 returns : tie.Need-returns
 returns c =
-    let a = c .before .before .before .before .args in
-    extended-over (a .f) (getD (a .counts .now) (a .j) 0) (getD (a .starts .now) (a .j) 0 * termWords) (a .terms) (number (a .seen)) (a .pool .now) (a .scratch .now) (a .seen) (c .if1 .taken)
+    let a = c .before .before .before .before .before .before .before .args in
+    extended-over (a .f) (getD (a .counts .now) (a .j) 0) (getD (a .starts .now) (a .j) 0 * termWords) (a .sum .terms) (number (a .sum .seen)) (a .pool .now) (a .scratch .now) (a .sum .seen) (c .before .if1 .taken) (c .refusal .ensures)
 
 mul-start : tie.Need-mul-start
 mul-start c = search needs
@@ -83,10 +86,10 @@ returns-2 : tie.Need-returns-2
 returns-2 c =
     let v = c .before .variables in
     let p = c .before .before .before .before .before .before in
-    let b = p .before .before .before .before .before .before .before .before in
+    let b = p .before .before .before .before .before .before .before .before .before .before in
     let a = b .args in
     let i = p .before .before .before .before .if1 .left in
-    extended-all (a .f) (getD (a .counts .now) (a .j) 0) (getD (a .starts .now) (a .j) 0 * termWords) (a .terms) (number (a .seen)) (a .pool .now) (a .scratch .now)
+    extended-all (a .f) (getD (a .counts .now) (a .j) 0) (getD (a .starts .now) (a .j) 0 * termWords) (a .sum .terms) (number (a .sum .seen)) (a .pool .now) (a .scratch .now)
     (p .append-products .last .0) (v .result) (c .union .result) (b .pre .1) (omega arith) (b .pre .0 .words) i (p .append-products .ensures) (v .ensures) (c .union .ensures)
 
 pub add-products-spec : {M : Type 1} → statement M
@@ -98,6 +101,7 @@ add-products-spec =
     cast-m
     mul-count
     add-count
+    refusal-requires
     returns
     mul-start
     element-copy-out-start

@@ -1,20 +1,19 @@
--- `pairs::sum_pairs` meets its contract. The loop's invariant: the products that stand, and those of the pairs from i on, are all of them.
+-- `pairs::sum_pairs` meets its contract. The loop's invariant: the pairs before i are stored, and the products that stand, and those of the pairs from i on, are all of them.
 -- The measure is what is left of the line. Assumes nothing.
 use mathlib.Core.Path.{_≡_, refl}
-use mathlib.Core.Bool.{false}
 use Prim.Native.Nat.{_-_}
 use native.Mathlib.Omega.{arith}
 use lib.ListN.{length}
 use Rattle.words.specs.Words.{number}
 use Rattle.table.specs.Table.{firsts, entryAt}
 use Rattle.pairs.proofs.Adding.{kept-trans}
-use Rattle.pairs.proofs.Summing.{Done, done-start, done-stored, done-over, done-more, done-last}
+use Rattle.pairs.proofs.Summing.{Done, done-start, done-rest, done-stop, done-onward, done-more, done-last}
 use Rattle.pairs.proofs.sum_pairs.Statement.{statement}
 use Rattle.pairs.proofs.sum_pairs.Tie as tie
 
 abbrev Inv-loop : tie.InvT-loop
 Inv-loop indices starts counts n line at pool scratch₀ k sum₀ i₀ scratch sum i =
-    (sum .over ≡ false) × Done k (firsts (entryAt indices starts counts pool) n) line at i (number (sum₀ .seen)) (sum .terms) (number (sum .seen)) scratch₀ scratch
+    (sum .verdict ≡ 0) × Done k (firsts (entryAt indices starts counts pool) n) line at i (number (sum₀ .seen)) (sum .terms) (number (sum .seen)) scratch₀ scratch
 
 abbrev μ-loop : tie.MeasureT-loop
 μ-loop indices starts counts n line at pool scratch₀ k sum₀ i₀ scratch sum i = length line - i
@@ -23,59 +22,59 @@ loop-holds : tie.Need-loop-holds Inv-loop μ-loop
 loop-holds c =
     let b = c .before .before .before in
     let a = b .args in
-    (refl, done-start (a .k) (firsts (entryAt (a .indices .now) (a .starts .now) (a .counts .now) (a .pool .now)) (a .n)) (a .line .now) (a .at) (number (a .seen)) (a .scratch .now) (b .pre .0))
+    let s = firsts (entryAt (a .indices .now) (a .starts .now) (a .counts .now) (a .pool .now)) (a .n) in
+    (refl, done-start (a .k) s (a .line .now) (a .at) (number (a .seen)) (a .scratch .now) (b .pre .0 .0) (b .pre .0 .1))
 
 add-pair-requires : tie.Need-add-pair-requires Inv-loop μ-loop
 add-pair-requires c κs =
-    let l = c .before .before .loop in
+    let d = c .before .before .loop .inv .1 in
     let b = c .before .before .before .before .before .before in
+    ((d .left, d .reads), c .before .loop-test .taken, b .pre .1, omega (arith, b .pre .2, d .kept .same), b .pre .3, b .pre .4, d .most)
+
+stopped-requires : tie.Need-stopped-requires Inv-loop μ-loop
+stopped-requires c κs =
+    let p = c .before .before .before .before .add-pair in
+    let t = c .before .before .before .before .before .before in
+    let l = t .before .loop in
+    let b = t .before .before .before .before .before in
     let a = b .args in
     let s = firsts (entryAt (a .indices .now) (a .starts .now) (a .counts .now) (a .pool .now)) (a .n) in
-    let d = l .inv .1 in (
-      done-stored (a .k) s (a .line .now) (a .at) (l .i) (number (a .seen)) (l .sum .terms) (number (l .sum .seen)) (a .scratch .now) (l .scratch) d,
-      c .before .loop-test .taken,
-      b .pre .1,
-      omega (arith, b .pre .2, d .kept .same),
-      b .pre .3,
-      b .pre .4,
-      d .most,
-    )
+    (b .pre .1 .1 .few, done-rest (a .k) s (a .line .now) (a .at) (l .i) (number (a .seen)) (l .sum .terms) (number (l .sum .seen)) (a .scratch .now) (l .scratch) (l .inv .1) (t .loop-test .taken) (p .last .1 .1 .1 .1 .1 .1 .1 .0) (p .result) (p .ensures))
 
 same-length : tie.Need-same-length Inv-loop μ-loop
-same-length c =
-    let p = c .before .before .before .before .add-pair in
-    let l = c .before .before .before .before .before .before .before .loop in
-    kept-trans (l .inv .1 .kept) (p .ensures .extended .kept) .same
+same-length c = kept-trans (c .before .before .before .before .before .before .before .before .loop .inv .1 .kept) (c .before .before .before .before .before .add-pair .ensures .kept) .same
 
 returns : tie.Need-returns Inv-loop μ-loop
 returns c =
-    let p = c .before .before .before .before .add-pair in
-    let t = c .before .before .before .before .before .before in
+    let p = c .before .before .before .before .before .add-pair in
+    let t = c .before .before .before .before .before .before .before in
     let l = t .before .loop in
-    let a = t .before .before .before .before .before .args in
+    let b = t .before .before .before .before .before in
+    let a = b .args in
     let s = firsts (entryAt (a .indices .now) (a .starts .now) (a .counts .now) (a .pool .now)) (a .n) in
-    done-over (a .k) s (a .line .now) (a .at) (l .i) (number (a .seen)) (l .sum .terms) (number (l .sum .seen)) (a .scratch .now) (l .scratch) (l .inv .1) (t .loop-test .taken)
-    (p .last .1 .1 .1 .1 .1 .1 .1 .0) (p .result) (p .ensures) (c .if1 .taken)
+    done-stop (a .k) s (a .line .now) (a .at) (l .i) (number (a .seen)) (l .sum .terms) (number (l .sum .seen)) (a .scratch .now) (l .scratch) (l .inv .1) (t .loop-test .taken) (p .last .1 .1 .1 .1 .1 .1 .1 .0) (p .result) (p .ensures)
+    (c .before .if1 .taken) (c .stopped .result) (λ qs w. c .stopped .ensures qs w (a .starts .now) (a .counts .now) (a .pool .now))
 
 loop-less : tie.Need-loop-less Inv-loop μ-loop
 loop-less c =
-    let p = c .before .before .before .before .add-pair in
-    let t = c .before .before .before .before .before .before in
-    let g = p .ensures .taken in
-    let h = t .loop-test .taken in
-    omega (arith, g .onward, g .inside, h)
+    let p = c .before .before .before .before .before .add-pair in
+    let t = c .before .before .before .before .before .before .before in
+    let l = t .before .loop in
+    let b = t .before .before .before .before .before in
+    let a = b .args in
+    let s = firsts (entryAt (a .indices .now) (a .starts .now) (a .counts .now) (a .pool .now)) (a .n) in
+    let o = done-onward (a .k) s (a .line .now) (a .at) (l .i) (number (a .seen)) (l .sum .terms) (number (l .sum .seen)) (a .scratch .now) (l .scratch) (l .inv .1) (t .loop-test .taken) (p .last .1 .1 .1 .1 .1 .1 .1 .0) (p .result) (p .ensures) (c .before .if1 .left) in
+    omega (arith, o .0, o .1)
 
 loop-again : tie.Need-loop-again Inv-loop μ-loop
 loop-again c =
-    let p = c .before .before .before .before .add-pair in
-    let t = c .before .before .before .before .before .before in
+    let p = c .before .before .before .before .before .add-pair in
+    let t = c .before .before .before .before .before .before .before in
     let l = t .before .loop in
-    let a = t .before .before .before .before .before .args in
-    let s = firsts (entryAt (a .indices .now) (a .starts .now) (a .counts .now) (a .pool .now)) (a .n) in (
-      c .if1 .left,
-      done-more (a .k) s (a .line .now) (a .at) (l .i) (number (a .seen)) (l .sum .terms) (number (l .sum .seen)) (a .scratch .now) (l .scratch) (l .inv .1) (t .loop-test .taken)
-          (p .last .1 .1 .1 .1 .1 .1 .1 .0) (p .result) (p .ensures) (c .if1 .left),
-    )
+    let b = t .before .before .before .before .before in
+    let a = b .args in
+    let s = firsts (entryAt (a .indices .now) (a .starts .now) (a .counts .now) (a .pool .now)) (a .n) in
+    (c .before .if1 .left, done-more (a .k) s (a .line .now) (a .at) (l .i) (number (a .seen)) (l .sum .terms) (number (l .sum .seen)) (a .scratch .now) (l .scratch) (l .inv .1) (t .loop-test .taken) (p .last .1 .1 .1 .1 .1 .1 .1 .0) (p .result) (p .ensures) (c .before .if1 .left))
 
 same-length-2 : tie.Need-same-length-2 Inv-loop μ-loop
 same-length-2 c = c .before .loop .inv .1 .kept .same
@@ -95,6 +94,7 @@ sum-pairs-spec =
     μ-loop
     loop-holds
     add-pair-requires
+    stopped-requires
     same-length
     returns
     loop-less
