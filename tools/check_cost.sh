@@ -1,7 +1,7 @@
 #!/usr/bin/env bash
 # Instructions per byte of text, by callgrind, less those for the empty text: the proved checker, the independent one,
-# and a loop that only looks at each byte once. Then times, in turns in one run.
-# Needs valgrind, target/bin/check_cost (`rt check check_cost`) and target/staticlib (`rt staticlib lpac_host`).
+# and a loop that only looks at each byte once; per product on lines of more and more products; then times, in turns in one run.
+# Needs valgrind, target/bin (`rt check check_cost lpac_check`) and target/staticlib (`rt staticlib lpac_host`).
 set -euo pipefail
 cd "$(dirname "$0")/.."
 (cd rust && cargo build --release --offline --quiet)
@@ -28,5 +28,12 @@ for name in $("$bench" names); do
   f=$((($(instructions "$name" "$bench" floor) - floor) / bytes))
   printf '| %s | %d | %d | %d | %d | %d | %d.%02d |\n' "$name" "$bytes" "$(wc -l <"$folder/$name")" $p $i $f $((p / i)) $((p * 100 / i % 100))
 done
+
+printf '\n| products a line | instructions a product |\n|---|---|\n'
+for n in 64 256 1024; do
+  all=$(target/bin/lpac_check <"$folder/products-$n" | cut -f 4)
+  printf '| %d | %d |\n' "$n" $((($(instructions "products-$n" target/bin/check_cost) - proved) / all))
+done
+
 printf '\n'
 "$bench"

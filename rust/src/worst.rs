@@ -33,12 +33,12 @@ fn terms(random: &mut Random, n: usize) -> Vec<String> {
     (0..n).map(|_| format!("{}.{}.{}", random.between(1, 9), random.below(256), random.below(256))).collect()
 }
 
-/// Every lin line makes 1,024 products, which cancel.
-fn products() -> Vec<u8> {
+/// Every lin line makes so many products, a multiple of 64, which cancel.
+fn products(each: usize) -> Vec<u8> {
     let mut random = Random::new(1);
     let head = format!("ring\t64\nin\t1\t{}\ngoal\t1\n", terms(&mut random, 32).join(" "));
     grown(head, HOST_BYTES, |turn| {
-        let factor = terms(&mut random, 16);
+        let factor = terms(&mut random, each / 64);
         let negative = joined(factor.iter().map(|t| format!("-{t}")), " ");
         (turn < 510).then(|| format!("lin\t{}\t0\t1\t{}\t1\t{negative}\n", turn + 2, factor.join(" ")))
     })
@@ -99,7 +99,9 @@ pub fn all() -> Vec<Measured> {
         ("onelin", multiplier(Style::OneLin)),
         ("cells", multiplier(Style::Cells)),
         ("fine", multiplier(Style::Fine)),
-        ("products", products()),
+        ("products-64", products(64)),
+        ("products-256", products(256)),
+        ("products-1024", products(1_024)),
         ("deletions", deletions()),
         ("fields", fields()),
         ("decimals", decimals()),

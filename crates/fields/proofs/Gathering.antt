@@ -20,7 +20,8 @@ use Rattle.algebra.specs.Polynomial.{Term, Poly}
 use Rattle.terms.specs.Terms.{decode}
 use Rattle.terms.proofs.Decode.{behind-within, decode-behind}
 use Rattle.paper.specs.Grammar.{Bytes, got, each, decimal, term, asWritten, polynomial}
-use Rattle.paper.proofs.Reading.{isZero, term-parts, PolynomialParts, polynomial-parts, takes-polynomial, after-length, each-empty, term-zero, decimal-zero}
+use Rattle.paper.proofs.Reading.{takes-polynomial, after-length}
+use Rattle.paper.proofs.Pieces.{isZero, term-parts, PolynomialParts, polynomial-parts, each-empty, term-zero, decimal-zero}
 use Rattle.paper.specs.Statement.{WrittenTerm, Written, isTerm, inRange, tooManyTerms}
 use Rattle.paper.proofs.Ranges.{term-in-range, cond-no, cond-yes}
 use Rattle.reader.specs.Places.{Got}

@@ -17,7 +17,8 @@ use Rattle.words.specs.Words.{number}
 use Rattle.paper.specs.Grammar.{Bytes, Read, got, stuck, Reader, next, each, digits, decimal}
 use Rattle.paper.specs.Statement.{isVariable, setOf}
 use Rattle.paper.proofs.Ranges.{cond-yes, cond-no}
-use Rattle.paper.proofs.Reading.{parted, Takes, each-more, each-stuck, every-append, digits-more, digits-least, decimal-first, decimal-low, decimal-high, decimal-end}
+use Rattle.paper.proofs.Reading.{parted, Takes, each-more, each-stuck, every-append}
+use Rattle.paper.proofs.Pieces.{digits-more, digits-least, decimal-first, decimal-low, decimal-high, decimal-end}
 use Rattle.fields.specs.Worded.{signedWord}
 use Rattle.fields.specs.Fields.{Good, isWord}
 use Rattle.reader.proofs.Scans.{Passed}

@@ -13,7 +13,8 @@ use Rattle.terms.specs.Terms.{termOf}
 use Rattle.paper.specs.Grammar.{Bytes, got, decimal, sign, term}
 use Rattle.paper.specs.Statement.{WrittenTerm, isVariable, isTerm}
 use Rattle.paper.proofs.Ranges.{term-in-range}
-use Rattle.paper.proofs.Reading.{TermParts, term-parts, takes-term, after-length}
+use Rattle.paper.proofs.Reading.{takes-term, after-length}
+use Rattle.paper.proofs.Pieces.{TermParts, term-parts}
 use Rattle.reader.specs.Places.{Got}
 use Rattle.reader.specs.Fields.{moreVariables}
 use Rattle.reader.proofs.Polynomials.{sign-here, sign-not, term-got}

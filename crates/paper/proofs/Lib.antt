@@ -1,5 +1,6 @@
 pub mod Stands
 pub mod Steps
+pub mod Zeros
 pub mod Sound
 pub mod Accepted
 pub mod Store
@@ -8,6 +9,7 @@ pub mod Judging
 pub mod Running
 pub mod Numbers
 pub mod Reading
+pub mod Pieces
 pub mod Ranges
 pub mod ReadBack
 pub mod SpelledMeaning

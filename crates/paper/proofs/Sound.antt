@@ -3,27 +3,26 @@ use mathlib.Core.Path.{_≡_, refl, sym, ap, _∙_, subst}
 use mathlib.Core.Bool.{Bool, true, false, _||_, cond}
 use mathlib.Core.Logic.{⊎-elim}
 use mathlib.Core.List.{List, [], _∷_, _++_, map}
-use Prim.Native.Nat.{ℕ, _+_, _^_, _≤_, _<_}
-use native.Mathlib.Nat.{zero-mod, mul-zero, le-trans}
+use Prim.Native.Nat.{ℕ, _^_, _≤_, _<_}
+use native.Mathlib.Nat.{le-trans}
 use native.Mathlib.Omega.{arith}
 use lib.Bits.{bitOr}
 use lib.Dec.{eqb}
 use borrow.Author.Tests.{not-false, eqb-true, eqb-false}
-use Rattle.ground.proofs.Congruence.{Same, same-add, same-mul, same-refl, same-eq, _⊳_}
 use Rattle.ground.specs.Lists.{any, gather}
-use Rattle.ground.proofs.Tests.{split, by-cond, or-cases}
-use Rattle.algebra.specs.Polynomial.{bit, Apart, Poly, value, vars, equal, products, reduce, product, extension, allVars, AllZero, Forced, Derived, input as inputOf, forced, defined}
-use Rattle.algebra.proofs.Values.{sumAt, value-reduce, sumAt-append, sumAt-mul}
+use Rattle.ground.proofs.Tests.{split, or-cases}
+use Rattle.algebra.specs.Polynomial.{bit, Apart, Poly, vars, products, reduce, product, extension, allVars, AllZero, Forced, Derived, input as inputOf, forced, defined}
 use Rattle.algebra.proofs.Sets.{bit-or, bit-lt, bit-of-zero, bit-pow-other, has-false, has-none}
-use Rattle.algebra.proofs.Bit.{equal-true, value-none}
+use Rattle.algebra.proofs.Bit.{equal-true}
 use Rattle.algebra.proofs.Variables.{vars-extension}
 use Rattle.algebra.proofs.Derivation.{zero-left, zero-right, zero-both}
 use Rattle.limits.specs.Verdicts.{SEEN, MISMATCH, NOTBIT}
 use Rattle.paper.specs.Statement.{Written, Pair, Statement, ring, input, goal, lin, del, ext, onInput, onExt, fields, reduced}
-use Rattle.paper.specs.Rules.{modulo, inputs, steps, Store, find, remove, State, place, entries, makesSeen, combination, holdsGoal, rules, after}
+use Rattle.paper.specs.Rules.{modulo, inputs, steps, find, State, place, entries, makesSeen, combination, holdsGoal, rules, after}
 use Rattle.paper.specs.Answer.{inputsIn, goalIn, introducedIn, definedIn}
 use Rattle.paper.proofs.Stands.{Stands, stands-none}
 use Rattle.paper.proofs.Steps.{Steps, done, step}
+use Rattle.paper.proofs.Zeros.{StoreZero, zero-append, zero-remove, zero-goal, zero-stated}
 
 -- the variable that a statement defines
 abbrev defines : Statement → ℕ
@@ -38,54 +37,12 @@ none-more true e = refl
 none-more false e = e
 
 module _ (k : ℕ) where
-  -- ---- a store whose polynomials are zero
-  abbrev pub StoreZero : ℕ → Store → Type 0
-  StoreZero a [] = Unit {0}
-  StoreZero a (e ∷ s) = (value k a (e .poly) ≡ 0) × StoreZero a s
-
-  zero-append : (a : ℕ) (s t : Store) → StoreZero a s → StoreZero a t → StoreZero a (s ++ t)
-  zero-append a [] t h g = g
-  zero-append a (e ∷ s) t h g = (h .0, zero-append a s t (h .1) g)
-
-  zero-find : (a i : ℕ) (s : Store) → StoreZero a s → value k a (find s i) ≡ 0
-  unfolding find
-  zero-find a i [] h = value-none k a
-  zero-find a i (e ∷ s) h = by-cond (λ (p : Poly). value k a p ≡ 0) (eqb i (e .index)) (λ t. h .0) (λ t. zero-find a i s (h .1))
-
-  zero-remove : (a i : ℕ) (s : Store) → StoreZero a s → StoreZero a (remove s i)
-  unfolding remove
-  zero-remove a i [] h = tt
-  zero-remove a i (e ∷ s) h = by-cond (StoreZero a) (eqb i (e .index)) (λ t. h .1) (λ t. (h .0, zero-remove a i s (h .1)))
-
-  zero-goal : (a : ℕ) (g : Poly) (s : Store) → StoreZero a s → holdsGoal g s ≡ true → value k a g ≡ 0
-  unfolding holdsGoal any
-  zero-goal a g [] h e = absurd (let z : _≡_ {A = ℕ} 0 1 = cc in omega arith)
-  zero-goal a g (x ∷ s) h e =
-      ⊎-elim (λ t. ap (value k a) (sym (equal-true (x .poly) g t)) ∙ h .0) (λ t. zero-goal a g s (h .1) t)
-      (or-cases (equal (x .poly) g) (any (λ e. equal (e .poly) g) s) e)
-
-  -- a combination of stored polynomials is zero where they are
-  zero-combination : (a : ℕ) (qs : List Pair) (s : Store) → StoreZero a s → Same (2 ^ k) (sumAt a (combination k (find s) qs)) 0
-  unfolding combination value
-  zero-combination a [] s h = same-refl
-  zero-combination a (q ∷ qs) s h =
-      same-eq (sumAt-append a (products (reduced k (q .factor)) (find s (q .index))) (combination k (find s) qs)
-      ∙ ap (λ (x : ℕ). x + sumAt a (combination k (find s) qs)) (sumAt-mul a (reduced k (q .factor)) (find s (q .index))))
-      ⊳ same-add (same-mul same-refl (record { same = zero-find a (q .index) s h ∙ sym (zero-mod (2 ^ k)) })
-      ⊳ same-eq (mul-zero (sumAt a (reduced k (q .factor))))) (zero-combination a qs s h)
-
-  zero-stated : (a : ℕ) (p : Poly) (qs : List Pair) (s : Store) → StoreZero a s → p ≡ reduce k (combination k (find s) qs) → value k a p ≡ 0
-  unfolding value
-  zero-stated a p qs s h e =
-      ap (value k a) e ∙ value-reduce k a (combination k (find s) qs)
-      ∙ zero-combination a qs s h .same ∙ zero-mod (2 ^ k)
-
   -- ---- what holds between two lines: a derivation of ps from is, with definitions for es
   pub record Good (s : State) (is : List Poly) (es : ℕ) (ps : List Poly) : Type 0 where
     pub ringed : s .ring ≡ modulo k
     pub begun : 0 < s .phase
     pub derived : Derived k is es ps
-    pub kept : (b : ℕ) → AllZero k b ps → StoreZero b (s .store)
+    pub kept : (b : ℕ) → AllZero k b ps → StoreZero k b (s .store)
     pub witnessed : (v : ℕ) → bit (allVars ps) v ≤ bit (s .seen) v
     pub early : s .phase ≡ inputs → es ≡ 0
     pub aimed : (v : ℕ) → bit (vars (s .goal)) v ≤ bit (s .seen) v
@@ -141,7 +98,7 @@ module _ (k : ℕ) where
         ringed = refl;
         begun = g .begun;
         derived = inputOf (reduced k p) (apart-zero (vars (reduced k p)) (g .early ph)) (g .derived);
-        kept = λ b z. zero-append b (s .store) _ (g .kept b (z .1)) (z .0, tt);
+        kept = λ b z. zero-append k b (s .store) _ (g .kept b (z .1)) (z .0, tt);
         witnessed = λ v. all-in (reduced k p) ps _ v (seen-first 0 (reduced k p) [] (s .seen) v) (le-trans (g .witnessed v) (old (input i p) v));
         early = g .early;
         aimed = λ v. le-trans (g .aimed v) (old (input i p) v);
@@ -155,19 +112,19 @@ module _ (k : ℕ) where
         ringed = refl;
         begun = omega arith;
         derived = g .derived;
-        kept = λ b z. zero-append b (s .store) [] (g .kept b z) tt;
+        kept = λ b z. zero-append k b (s .store) [] (g .kept b z) tt;
         witnessed = λ v. le-trans (g .witnessed v) (old (goal p) v);
         early = λ e. absurd (omega arith);
         aimed = λ v. seen-first 0 (reduced k p) [] (s .seen) v;
         apart = apart-zero (vars (reduced k p)) (g .early ph);
-        hit = λ e. record { at = λ b z. zero-goal b (reduced k p) (s .store) (g .kept b z) e };
+        hit = λ e. record { at = λ b z. zero-goal k b (reduced k p) (s .store) (g .kept b z) e };
       }
 
       -- the goal is reached by what is stored now, or was before
       hit-more : (i : ℕ) (p : Poly) → (s .reached || holdsGoal (s .goal) (record { index = i; poly = p } ∷ [])) ≡ true → Forced k (p ∷ ps) (s .goal)
       hit-more i p e =
           ⊎-elim (λ t. forced-more p (g .hit t))
-          (λ t. record { at = λ b z. zero-goal b (s .goal) (record { index = i; poly = p } ∷ []) (z .0, tt) t })
+          (λ t. record { at = λ b z. zero-goal k b (s .goal) (record { index = i; poly = p } ∷ []) (z .0, tt) t })
           (or-cases (s .reached) (holdsGoal (s .goal) (record { index = i; poly = p } ∷ [])) e)
 
       next-lin : (i : ℕ) (p : Written) (qs : List Pair) → s .phase ≡ steps
@@ -176,8 +133,8 @@ module _ (k : ℕ) where
       next-lin i p qs ph e = record {
         ringed = refl;
         begun = g .begun;
-        derived = forced (reduced k p) (record { at = λ b z. zero-stated b (reduced k p) qs (s .store) (g .kept b z) e }) (g .derived);
-        kept = λ b z. zero-append b (s .store) _ (g .kept b (z .1)) (z .0, tt);
+        derived = forced (reduced k p) (record { at = λ b z. zero-stated k b (reduced k p) qs (s .store) (g .kept b z) e }) (g .derived);
+        kept = λ b z. zero-append k b (s .store) _ (g .kept b (z .1)) (z .0, tt);
         witnessed = λ v. all-in (reduced k p) ps _ v (seen-first 0 (reduced k p) _ (s .seen) v) (le-trans (g .witnessed v) (old (lin i p qs) v));
         early = g .early;
         aimed = λ v. le-trans (g .aimed v) (old (lin i p qs) v);
@@ -191,7 +148,7 @@ module _ (k : ℕ) where
         ringed = refl;
         begun = g .begun;
         derived = g .derived;
-        kept = λ b z. zero-remove b i (s .store) (g .kept b z);
+        kept = λ b z. zero-remove k b i (s .store) (g .kept b z);
         witnessed = λ v. le-trans (g .witnessed v) (old (del i) v);
         early = g .early;
         aimed = λ v. le-trans (g .aimed v) (old (del i) v);
@@ -206,7 +163,7 @@ module _ (k : ℕ) where
         ringed = refl;
         begun = g .begun;
         derived = defined v r square (has-none (bitOr (vars r) (allVars ps)) v fresh) (g .derived);
-        kept = λ b z. zero-append b (s .store) _ (g .kept b (z .1)) (z .0, tt);
+        kept = λ b z. zero-append k b (s .store) _ (g .kept b (z .1)) (z .0, tt);
         witnessed = λ w. all-in (extension k v r) ps _ w
             (omega (arith, vars-extension k w v r, bit-or (2 ^ v) (vars r) w, seen-own (2 ^ v) (allVars (r ∷ [])) (s .seen) w, seen-first (2 ^ v) r [] (s .seen) w))
             (le-trans (g .witnessed w) (old (ext i v p) w));

@@ -4,4 +4,5 @@ pub mod Scans
 pub mod Polynomials
 pub mod Fields
 pub mod Lines
+pub mod LineKinds
 pub mod Decided

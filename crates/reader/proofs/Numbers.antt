@@ -11,7 +11,7 @@ use Rattle.ground.proofs.Tests.{bool-ext}
 use Rattle.limits.specs.Verdicts.{FORM}
 use Rattle.paper.specs.Grammar.{Bytes, Reader, got, digits, decimal}
 use Rattle.paper.specs.Statement.{within}
-use Rattle.paper.proofs.Reading.{digits-more, digits-least}
+use Rattle.paper.proofs.Pieces.{digits-more, digits-least}
 use Rattle.reader.specs.Places.{Got, Fails}
 use Rattle.reader.specs.Numbers.{TooLarge, DecimalIs, DigitsEnd, refusalOf, InRange, OutOfRange, NumberIs}
 use Rattle.reader.specs.declared.number.Decimal.{Decimal}

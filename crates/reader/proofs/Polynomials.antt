@@ -15,7 +15,8 @@ use Rattle.ground.specs.Lists.{every}
 use Rattle.ground.proofs.Tests.{bool-ext, split, and-right, and-both}
 use Rattle.limits.specs.Limits.{variables, greatestMagnitude, fieldTerms}
 use Rattle.paper.specs.Grammar.{Bytes, got, decimal, sign, term, asWritten, polynomial}
-use Rattle.paper.proofs.Reading.{isZero, takes-term, inField, each-none, each-empty, term-zero, zero-term}
+use Rattle.paper.proofs.Reading.{takes-term, inField, each-none}
+use Rattle.paper.proofs.Pieces.{isZero, each-empty, term-zero, zero-term}
 use Rattle.paper.specs.Statement.{WrittenTerm, within, isVariable, isTerm, inRange, tooManyTerms}
 use Rattle.reader.specs.Places.{Got, Fails}
 use Rattle.reader.specs.Fields.{moreVariables, moreTerms, always, fewTerms, fewMore, Scanned, Scans, Signed}

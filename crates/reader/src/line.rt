@@ -29,8 +29,6 @@ pub enum LineScan {
     Stuck(usize),
 }
 
-// ---- behind a tab
-
 // The number behind the tab at at.
 fn tab_number(s: &[u8], at: usize, low: u64, high: u64) -> FieldScan
     requires { ⌜ at ≤ length (now s) ⌝ }
@@ -58,8 +56,6 @@ fn tab_field(s: &[u8], at: usize) -> FieldScan
     }
     scan_field(s, at + 1)
 }
-
-// ---- pairs of index and factor
 
 // The pair at at.
 fn scan_pair(s: &[u8], at: usize) -> FieldScan

@@ -3,7 +3,7 @@
 use mathlib.Core.Path.{_∙_}
 use native.Mathlib.Omega.{arith}
 use borrow.Author.Needs.{needs}
-use Rattle.paper.proofs.Reading.{decimal-zero, decimal-first}
+use Rattle.paper.proofs.Pieces.{decimal-zero, decimal-first}
 use Rattle.fields.proofs.Taking.{first-digit, good-digits}
 use Rattle.fields.proofs.take_decimal.Statement.{statement}
 use Rattle.fields.proofs.take_decimal.Tie as tie

@@ -6,7 +6,7 @@ use native.Mathlib.Omega.{arith}
 use lib.ListN.{length, drop, getD}
 use borrow.Author.Needs.{needs}
 use Rattle.paper.specs.Grammar.{digits}
-use Rattle.paper.proofs.Reading.{digits-more, digits-low, digits-high, digits-end}
+use Rattle.paper.proofs.Pieces.{digits-more, digits-low, digits-high, digits-end}
 use Rattle.fields.proofs.Taking.{digit-fits}
 use Rattle.fields.proofs.take_digits.Statement.{statement}
 use Rattle.fields.proofs.take_digits.Tie as tie

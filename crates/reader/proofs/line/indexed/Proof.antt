@@ -2,7 +2,7 @@
 -- Assumes nothing.
 use Rattle.paper.specs.Grammar.{number}
 use Rattle.reader.proofs.Scans.{scanned, pass-on}
-use Rattle.reader.proofs.Lines.{behind-fails, index-behind}
+use Rattle.reader.proofs.LineKinds.{behind-fails, index-behind}
 use borrow.Author.Needs.{needs}
 use Rattle.reader.proofs.line.indexed.Statement.{statement}
 use Rattle.reader.proofs.line.indexed.Tie as tie

@@ -1,7 +1,7 @@
 -- `reader::line::scan_del` meets its contract: a keyword and an index are the whole line. No loop.
 -- Assumes nothing.
 use Rattle.paper.specs.Grammar.{bytes}
-use Rattle.reader.proofs.Lines.{del-scans}
+use Rattle.reader.proofs.LineKinds.{del-scans}
 use borrow.Author.Needs.{needs}
 use Rattle.reader.proofs.line.scan_del.Statement.{statement}
 use Rattle.reader.proofs.line.scan_del.Tie as tie

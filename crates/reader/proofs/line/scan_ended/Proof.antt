@@ -4,7 +4,7 @@ use native.Mathlib.Omega.{arith}
 use Rattle.reader.specs.Lines.{rings, inputs, goals, lins, dels, exts}
 use Rattle.reader.specs.declared.line.Kind.the-variants.{Ring, Input, Goal, Lin, Del, Ext}
 use Rattle.reader.proofs.Fields.{ring-fields, input-fields, goal-fields, lin-fields, del-fields, ext-fields}
-use Rattle.reader.proofs.Lines.{first-ring, first-input, first-goal, first-lin, first-del, first-ext, kind-line, no-line, empty-line}
+use Rattle.reader.proofs.LineKinds.{first-ring, first-input, first-goal, first-lin, first-del, first-ext, kind-line, no-line, empty-line}
 use borrow.Author.Needs.{needs}
 use Rattle.reader.proofs.line.scan_ended.Statement.{statement}
 use Rattle.reader.proofs.line.scan_ended.Tie as tie

@@ -2,7 +2,7 @@
 -- Assumes nothing.
 use Rattle.paper.specs.Grammar.{bytes}
 use Rattle.reader.proofs.Scans.{scanned, pass-on}
-use Rattle.reader.proofs.Lines.{ext-fails, ext-fails-variable, ext-fails-field, ext-scans}
+use Rattle.reader.proofs.LineKinds.{ext-fails-variable, ext-fails-field, ext-fails, ext-scans}
 use borrow.Author.Needs.{needs}
 use Rattle.reader.proofs.line.scan_ext.Statement.{statement}
 use Rattle.reader.proofs.line.scan_ext.Tie as tie

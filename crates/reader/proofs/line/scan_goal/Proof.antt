@@ -3,7 +3,7 @@
 use Rattle.paper.specs.Grammar.{bytes}
 use Rattle.reader.specs.Lines.{goals}
 use Rattle.reader.proofs.Scans.{scanned, pass-on}
-use Rattle.reader.proofs.Lines.{behind-fails, goal-scans}
+use Rattle.reader.proofs.LineKinds.{behind-fails, goal-scans}
 use borrow.Author.Needs.{needs}
 use Rattle.reader.proofs.line.scan_goal.Statement.{statement}
 use Rattle.reader.proofs.line.scan_goal.Tie as tie

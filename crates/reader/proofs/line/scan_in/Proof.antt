@@ -2,7 +2,7 @@
 -- Assumes nothing.
 use Rattle.paper.specs.Grammar.{bytes}
 use Rattle.reader.proofs.Scans.{scanned, pass-on}
-use Rattle.reader.proofs.Lines.{input-fails, input-fails-field, input-scans}
+use Rattle.reader.proofs.LineKinds.{input-fails-field, input-fails, input-scans}
 use borrow.Author.Needs.{needs}
 use Rattle.reader.proofs.line.scan_in.Statement.{statement}
 use Rattle.reader.proofs.line.scan_in.Tie as tie

@@ -2,7 +2,7 @@
 -- Assumes nothing.
 use Rattle.paper.specs.Grammar.{bytes}
 use Rattle.reader.proofs.Scans.{scanned, pass-on}
-use Rattle.reader.proofs.Lines.{lin-fails, lin-fails-field, lin-fails-pairs, lin-scans}
+use Rattle.reader.proofs.LineKinds.{lin-fails-field, lin-fails-pairs, lin-fails, lin-scans}
 use borrow.Author.Needs.{needs}
 use Rattle.reader.proofs.line.scan_lin.Statement.{statement}
 use Rattle.reader.proofs.line.scan_lin.Tie as tie

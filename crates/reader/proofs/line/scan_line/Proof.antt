@@ -1,6 +1,6 @@
 -- `reader::line::scan_line` meets its contract: without byte 10 a whole line stops at its end. No loop.
 -- Assumes nothing.
-use Rattle.reader.proofs.Lines.{line-ended, line-stops, line-unended}
+use Rattle.reader.proofs.LineKinds.{line-ended, line-stops, line-unended}
 use borrow.Author.Needs.{needs}
 use Rattle.reader.proofs.line.scan_line.Statement.{statement}
 use Rattle.reader.proofs.line.scan_line.Tie as tie

@@ -3,7 +3,7 @@
 use Rattle.paper.specs.Grammar.{bytes}
 use Rattle.reader.specs.Lines.{rings}
 use Rattle.reader.proofs.Scans.{scanned, pass-on}
-use Rattle.reader.proofs.Lines.{behind-fails, ring-scans}
+use Rattle.reader.proofs.LineKinds.{behind-fails, ring-scans}
 use borrow.Author.Needs.{needs}
 use Rattle.reader.proofs.line.scan_ring.Statement.{statement}
 use Rattle.reader.proofs.line.scan_ring.Tie as tie

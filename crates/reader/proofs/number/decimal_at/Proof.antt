@@ -4,7 +4,7 @@ use native.Mathlib.Omega.{arith}
 use Prim.Native.Nat.{_+_, _-_}
 use lib.ListN.{getD}
 use Rattle.paper.specs.Grammar.{digits, decimal}
-use Rattle.paper.proofs.Reading.{decimal-zero, decimal-first, decimal-low, decimal-high, decimal-end}
+use Rattle.paper.proofs.Pieces.{decimal-zero, decimal-first, decimal-low, decimal-high, decimal-end}
 use Rattle.reader.proofs.Numbers.{decimal-by}
 use borrow.Author.Needs.{needs}
 use Rattle.reader.proofs.number.decimal_at.Statement.{statement}

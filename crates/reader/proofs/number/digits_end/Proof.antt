@@ -4,7 +4,7 @@ use Prim.Native.Nat.{_≤_, _-_}
 use native.Mathlib.Omega.{arith}
 use lib.ListN.{length}
 use borrow.Author.Needs.{needs}
-use Rattle.paper.proofs.Reading.{digits-low, digits-high, digits-end}
+use Rattle.paper.proofs.Pieces.{digits-low, digits-high, digits-end}
 use Rattle.reader.proofs.Numbers.{DigitsTo, digits-to-none, digits-to-more, digits-to-stop}
 use Rattle.reader.proofs.number.digits_end.Statement.{statement}
 use Rattle.reader.proofs.number.digits_end.Tie as tie

@@ -7,7 +7,7 @@ use lib.ListN.{length, drop, getD}
 use borrow.Author.Needs.{needs}
 use borrow.Author.Tests.{leb-false}
 use Rattle.paper.specs.Grammar.{digits}
-use Rattle.paper.proofs.Reading.{digits-more, digits-low, digits-high, digits-end}
+use Rattle.paper.proofs.Pieces.{digits-more, digits-low, digits-high, digits-end}
 use Rattle.reader.proofs.Numbers.{digits-large}
 use Rattle.reader.proofs.number.digits_from.Statement.{statement}
 use Rattle.reader.proofs.number.digits_from.Tie as tie
