@@ -52,14 +52,14 @@ pub(crate) fn judge_line(
     ensures { λ r. ⌜ LineJudged capacity (record { content = now (line .entry); ended = ended }) state (now (pool .entry)) (now (scratch .entry)) r (now (pool .exit)) (now (scratch .exit)) ⌝ }
 {
     if limits::LINE_BYTES < line.len() {
-        return state.refuse(limits::LONGLINE);
+        return state.judged(limits::LONGLINE);
     }
     let scan = scan_line(line, ended);
     let LineScan::Line(kind, v) = scan else {
-        return state.refuse(limits::FORM);
+        return state.judged(limits::FORM);
     };
     if v != limits::ACCEPTED {
-        return state.refuse(v);
+        return state.judged(v);
     }
     step(state, kind, line, pool, scratch, capacity)
 }

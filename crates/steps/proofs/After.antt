@@ -10,7 +10,7 @@ use Rattle.ground.specs.Lists.{any, total}
 use Rattle.algebra.specs.Polynomial.{Poly, vars, equal, extension, allVars}
 use Rattle.paper.specs.Statement.{Written, Pair, ring, input, goal, lin, del, ext, fields, reduced}
 use Rattle.paper.specs.Rules.{modulo, bits, inputs, steps, State, find, remove, entries, makesSeen, productCount, holdsGoal, after}
-use Rattle.steps.specs.Parts.{only}
+use Rattle.steps.proofs.Rows.{only}
 
 module _ (s : State) where
   abbrev k : ℕ

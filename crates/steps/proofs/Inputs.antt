@@ -14,7 +14,7 @@ use Rattle.algebra.specs.Polynomial.{Poly, vars}
 use Rattle.words.specs.Words.{number}
 use Rattle.terms.specs.Terms.{decode}
 use Rattle.paper.specs.Grammar.{Bytes, decimal}
-use Rattle.paper.specs.Statement.{Written, goal, reduced}
+use Rattle.paper.specs.Statement.{Written, input, goal, reduced}
 use Rattle.paper.specs.Rules.{modulo, inputs, steps, stored, holdsGoal}
 use Rattle.reader.specs.Places.{Got}
 use Rattle.reader.specs.declared.line.Kind.the-variants.{Input, Goal}
@@ -25,11 +25,12 @@ use Rattle.steps.specs.declared.state.State.{State}
 use Rattle.steps.specs.declared.state.Step.{Step}
 use Rattle.steps.specs.State.{stateOf}
 use Rattle.steps.specs.Steps.{Says, Room, Does}
-use Rattle.steps.specs.Parts.{admits, fits, only, Kept}
+use Rattle.steps.specs.Parts.{admits}
 use Rattle.steps.proofs.Said.{said, input-index, input-read, goal-read}
-use Rattle.steps.proofs.Rows.{first-input, first-goal}
+use Rattle.steps.proofs.Rows.{fits, only, first-input, first-goal}
 use Rattle.steps.proofs.After.{after-input, after-goal}
-use Rattle.steps.proofs.Stepping.{does, stepped-refused, keeps}
+use Rattle.steps.proofs.Stepping.{does, stepped-refused, told}
+use Rattle.steps.proofs.Keeping.{Judged}
 use Rattle.steps.proofs.Admitting.{unadmitted, admitted, admitted-free}
 
 -- ---- in
@@ -40,31 +41,36 @@ module _ {line : Bytes} {capacity : ℕ} {s : State} {pool scratch : List ℕ} {
       let p = input-index h g in
       unadmitted inputs (stored (storeOf (s .table) pool) x) _ v (p .1) (first-input capacity (stateOf s pool scratch) x (p .0) (p .1 .ranged) (p .1 .short)) q n r
 
-  pub input-stands : {r : Step} {pool′ scratch′ seen : List ℕ} {f : FieldRun} → Room capacity s pool scratch → v ≡ 0
-      → ReducedAt line (e + 1) (s .ring) statedAt scratch scratch′ f
-      → number seen ≡ bitOr (vars (decode (f .terms) (drop statedAt scratch′))) (number (s .seen))
-      → Kept capacity x (decode (f .terms) (drop statedAt scratch′)) (record { seen = seen; reached = false; products = s .products }) s pool scratch′ r pool′
-      → Does capacity line s pool scratch r pool′ scratch′
-  input-stands {scratch′ = scratch′} {seen} {f} room z d u k =
+  pub input-judged : {scratch′ : List ℕ} {f : FieldRun} → Room capacity s pool scratch → v ≡ 0 → ReducedAt line (e + 1) (s .ring) statedAt scratch scratch′ f
+      → Judged line capacity s pool scratch scratch′ 0 x (f .terms)
+      (record { seen = bitOr (vars (decode (f .terms) (drop statedAt scratch′))) (number (s .seen)); reached = false; products = s .products })
+  input-judged {scratch′} {f} room z d =
       let w : Written = d .value in
       let t = input-read h g (d .taken) in
       let p : Poly = decode (f .terms) (drop statedAt scratch′) in
       let same : reduced (s .ring) w ≡ p = sym (d .run) in
-      let u′ : bitOr (vars (reduced (s .ring) w)) (number (s .seen)) ≡ number seen = ap (λ (y : Poly). bitOr (vars y) (number (s .seen))) same ∙ sym u in
-      keeps t room (drop-more factorAt goalAt scratch scratch′ (omega arith) (d .within .after)) (d .within .same)
-      (first-input capacity (stateOf s pool scratch) x w (t .ranged) (t .short)
-      ∙ admitted inputs (s .phase) (stored (storeOf (s .table) pool) x) q z (fits capacity (storeOf (s .table) pool) (only x (reduced (s .ring) w)))
-      ∙ ap (λ (y : Poly). fits capacity (storeOf (s .table) pool) (only x y)) same)
-      (after-input (stateOf s pool scratch) x w ∙ (λ i. record {
-        phase = s .phase;
-        ring = modulo (s .ring);
-        store = storeOf (s .table) pool ++ only x (same i);
-        seen = u′ i;
-        goal = decode (s .«goal_terms») (drop goalAt scratch);
-        reached = false;
-        products = s .products;
-      }))
-      (admitted-free inputs (s .phase) (stored (storeOf (s .table) pool) x) q z) (omega arith) k
+      record {
+        room = room;
+        statement = input x w;
+        said = t;
+        rows = first-input capacity (stateOf s pool scratch) x w (t .ranged) (t .short)
+            ∙ admitted inputs (s .phase) (stored (storeOf (s .table) pool) x) q z (fits capacity (storeOf (s .table) pool) (only x (reduced (s .ring) w)))
+            ∙ ap (λ (y : Poly). fits capacity (storeOf (s .table) pool) (only x y)) same;
+        next = λ _. after-input (stateOf s pool scratch) x w ∙ (λ i. record {
+          phase = s .phase;
+          ring = modulo (s .ring);
+          store = storeOf (s .table) pool ++ only x (same i);
+          seen = bitOr (vars (same i)) (number (s .seen));
+          goal = decode (s .«goal_terms») (drop goalAt scratch);
+          reached = false;
+          products = s .products;
+        });
+        free = λ _. admitted-free inputs (s .phase) (stored (storeOf (s .table) pool) x) q z;
+        few = λ _. d .few;
+        most = λ _. omega arith;
+        goal = drop-more factorAt goalAt scratch scratch′ (omega arith) (d .within .after);
+        same = d .within .same;
+      }
 
 -- ---- goal
 module _ {line : Bytes} {capacity : ℕ} {s : State} {pool scratch : List ℕ} (h : Says line Goal) where
@@ -79,20 +85,18 @@ module _ {line : Bytes} {capacity : ℕ} {s : State} {pool scratch : List ℕ} (
       → ReducedAt line 5 (s .ring) goalAt scratch scratch′ f
       → number seen ≡ bitOr (vars (decode (f .terms) (drop goalAt scratch′))) (number (s .seen))
       → reached ≡ holdsGoal (decode (f .terms) (drop goalAt scratch′)) (storeOf (s .table) pool)
-      → Does capacity line s pool scratch (record {
-        verdict = 0;
-        state = record {
-          phase = steps;
-          ring = s .ring;
-          table = s .table;
-          seen = seen;
-          «goal_terms» = f .terms;
-          reached = reached;
-          products = s .products;
-          lines = s .lines;
-        };
-      }) pool scratch′
-  goal-stands {scratch′} {seen} {reached} {f} room z d u b =
+      → {r : Step} → (r .verdict ≡ 0) × (r .state ≡ record {
+        phase = steps;
+        ring = s .ring;
+        table = s .table;
+        seen = seen;
+        «goal_terms» = f .terms;
+        reached = reached;
+        products = s .products;
+        lines = s .lines;
+      })
+      → Does capacity line s pool scratch r pool scratch′
+  goal-stands {scratch′} {seen} {reached} {f} room z d u b v =
       let w : Written = d .value in
       let t = goal-read h (d .taken) in
       let o = room .ready in
@@ -101,7 +105,7 @@ module _ {line : Bytes} {capacity : ℕ} {s : State} {pool scratch : List ℕ} (
       let same : decode (f .terms) (drop goalAt scratch′) ≡ reduced (s .ring) w = d .run in
       let seen-too : number seen ≡ bitOr (vars (reduced (s .ring) w)) (number (s .seen)) = u ∙ ap (λ (y : Poly). bitOr (vars y) (number (s .seen))) same in
       let reached-too : reached ≡ holdsGoal (reduced (s .ring) w) (storeOf (s .table) pool) = b ∙ ap (λ (y : Poly). holdsGoal y (storeOf (s .table) pool)) same in
-      does t (record {
+      does t (told v (record {
         verdict = first-goal capacity (stateOf s pool scratch) w (t .ranged) (t .short) ∙ ap (λ (b : Bool). cond (not b) ORDER 0) e;
         next = λ _. (λ i. record {
           phase = steps;
@@ -125,4 +129,4 @@ module _ {line : Bytes} {capacity : ℕ} {s : State} {pool scratch : List ℕ} (
         untouched = λ n. refl;
         pool-length = refl;
         scratch-length = l;
-      })
+      }))

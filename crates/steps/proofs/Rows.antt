@@ -1,20 +1,27 @@
 -- The verdict of the first row that refuses a statement of each kind. Assumes nothing.
-use mathlib.Core.Path.{_≡_, refl, ap, ap₂, _∙_}
+use mathlib.Core.Path.{_≡_, refl, sym, ap, ap₂, _∙_}
 use mathlib.Core.Bool.{Bool, true, false, not, cond, or-false, and-true}
-use mathlib.Core.List.{List, map}
+use mathlib.Core.List.{List, [], _∷_, map}
 use Prim.Native.Nat.{ℕ, _*_, _<_}
 use native.Mathlib.Nat.{zero-add, add-zero}
 use native.Mathlib.Omega.{arith}
 use lib.Bits.{bitOr}
 use lib.Dec.{eqb, ltb}
 use lib.ListN.{length}
+use borrow.Author.Tests.{eqb-true, ne-eqb}
 use Rattle.ground.specs.Lists.{every, any, total}
 use Rattle.limits.specs.Limits.{lineProducts}
 use Rattle.limits.specs.Verdicts.{ACCEPTED, ORDER, TAKEN, MISSING, SEEN, PRODUCTS, MISMATCH, NOTBIT, FULL}
-use Rattle.algebra.specs.Polynomial.{has, vars, equal, reduce, product, extension}
-use Rattle.paper.specs.Rules.{first, bits, opening, inputs, steps, State, stored, find, rules, place, entries, productCount, combination, overfull}
+use Rattle.algebra.specs.Polynomial.{Poly, has, vars, equal, reduce, product, extension}
+use Rattle.paper.specs.Rules.{first, bits, opening, inputs, steps, State, Store, stored, find, rules, place, entries, productCount, combination, overfull}
 use Rattle.paper.specs.Statement.{Written, Pair, Statement, onLin, onExt, ring, input, goal, lin, del, ext, newIndex, namedIndices, fields, numbersInRange, tooManyTerms, reduced}
-use Rattle.steps.specs.Parts.{admits, sums, extends, fits, only}
+use Rattle.steps.specs.Parts.{admits, sums, extends}
+
+abbrev pub only : ℕ → Poly → Store
+only i p = record { index = i; poly = p } ∷ []
+
+abbrev pub fits : ℕ → Store → Store → ℕ
+fits capacity s es = cond (overfull capacity s es) FULL ACCEPTED
 
 module _ (capacity : ℕ) (s : State) where
   abbrev k : ℕ
@@ -99,15 +106,19 @@ two-pass true b v w l m e = absurd (let z : ⊥ = omega arith in z)
 two-pass false true v w l m e = absurd (let z : ⊥ = omega arith in z)
 two-pass false false v w l m e = (refl, refl)
 
-pub three-stop : (a b c : Bool) (u v w x : ℕ) → (cond a u (cond b v (cond c w 0)) ≡ 0 → ⊥)
-    → cond a u (cond b v (cond c w x)) ≡ cond a u (cond b v (cond c w 0))
-three-stop true b c u v w x h = refl
-three-stop false b c u v w x h = two-stop b c v w x h
+-- where v is 0 it is left to the later verdict
+pub else-same : (v a b : ℕ) → (v ≡ 0 → a ≡ b) → cond (eqb v ACCEPTED) a v ≡ cond (eqb v ACCEPTED) b v
+else-same v a b h = go (eqb v ACCEPTED) (eqb-true v ACCEPTED)
+  where
+    go : (t : Bool) → (t ≡ true → v ≡ 0) → cond t a v ≡ cond t b v
+    go true e = h (e refl)
+    go false e = refl
 
-pub three-pass : (a b c : Bool) (u v w : ℕ) → 0 < u → 0 < v → 0 < w → cond a u (cond b v (cond c w 0)) ≡ 0
-    → (a ≡ false) × (b ≡ false) × (c ≡ false)
-three-pass true b c u v w l m n e = absurd (let z : ⊥ = omega arith in z)
-three-pass false b c u v w l m n e = let p = two-pass b c v w m n e in (refl, p .0, p .1)
+pub else-stop : (v later : ℕ) → 0 < v → v ≡ cond (eqb v ACCEPTED) later v
+else-stop v later l = sym (ap (λ (b : Bool). cond b later v) (ne-eqb v ACCEPTED (λ e. omega arith)))
 
-pub three-through : (a b c : Bool) (u v w x : ℕ) → 0 < u → 0 < v → 0 < w → cond a u (cond b v (cond c w 0)) ≡ 0 → cond a u (cond b v (cond c w x)) ≡ x
-three-through a b c u v w x l m n e = let p = three-pass a b c u v w l m n e in rw (p .0, p .1, p .2)
+pub three-else : (a b c : Bool) (u v w x : ℕ) {r : ℕ} → 0 < u → 0 < v → 0 < w → r ≡ cond a u (cond b v (cond c w 0)) → cond a u (cond b v (cond c w x)) ≡ cond (eqb r ACCEPTED) x r
+three-else true b c u v w x l m n e = rw e (else-stop u x l)
+three-else false true c u v w x l m n e = rw e (else-stop v x m)
+three-else false false true u v w x l m n e = rw e (else-stop w x n)
+three-else false false false u v w x l m n e = rw e refl

@@ -1,4 +1,4 @@
--- What makes a step: a refusal, a ring, a deletion, and a polynomial kept under a free index. Assumes nothing.
+-- What makes a step: a refusal, a ring, and a deletion. Assumes nothing.
 use mathlib.Core.Path.{_≡_, refl, sym, ap, subst, _∙_}
 use mathlib.Core.Bool.{Bool, true, false, not, cond}
 use mathlib.Core.List.{List, [], _∷_}
@@ -16,7 +16,7 @@ use Rattle.paper.specs.Rules.{first, Store, modulo, opening, inputs, steps, bit
 use Rattle.paper.specs.Grammar.{Bytes}
 use Rattle.paper.specs.Statement.{Statement, ring, del}
 use Rattle.paper.specs.Rules as paper
-use Rattle.paper.proofs.Store.{Distinct, distinct-append, distinct-remove}
+use Rattle.paper.proofs.Store.{Distinct, distinct-remove}
 use Rattle.fields.proofs.Taking.{same-value}
 use Rattle.table.specs.declared.Table.{Table}
 use Rattle.table.specs.Table.{storeOf}
@@ -26,10 +26,8 @@ use Rattle.table.proofs.Laws.{found-stored, fresh-fitting, forgotten-fitting}
 use Rattle.regions.specs.Regions.{goalAt}
 use Rattle.steps.specs.declared.state.State.{State}
 use Rattle.steps.specs.declared.state.Step.{Step}
-use Rattle.steps.specs.declared.state.Gain.{Gain}
 use Rattle.steps.specs.State.{stateOf, Ready, Fresh}
 use Rattle.steps.specs.Steps.{Room, Stepped, Does}
-use Rattle.steps.specs.Parts.{fits, only, gained, Kept}
 use Rattle.steps.proofs.Said.{Said, ring-range}
 use Rattle.steps.proofs.Rows.{first-ring, first-del}
 use Rattle.steps.proofs.After.{after-ring, after-del}
@@ -83,6 +81,12 @@ stepped-refused {r = r} v l e h n =
       scratch-length = n;
     }
 
+-- a step that hands back this verdict and this state
+pub told : {capacity v : ℕ} {st : Statement} {s t : State} {pool scratch pool′ scratch′ : List ℕ} {r : Step} → (r .verdict ≡ v) × (r .state ≡ t)
+    → Stepped capacity st s pool scratch (record { verdict = v; state = t }) pool′ scratch′ → Stepped capacity st s pool scratch r pool′ scratch′
+told {capacity} {st = st} {s} {pool = pool} {scratch} {pool′} {scratch′} q d =
+    subst (λ (x : Step). Stepped capacity st s pool scratch x pool′ scratch′) (λ i. record { verdict = sym (q .0) i; state = sym (q .1) i }) d
+
 -- ---- ring
 abbrev ringed : State → ℕ → State
 ringed s k = record {
@@ -102,11 +106,11 @@ module _ {line : Bytes} {capacity : ℕ} {s : State} {pool scratch : List ℕ} {
       let e : eqb opening (s .phase) ≡ false = ne-eqb opening (s .phase) (λ x. n (sym x)) in
       does h (stepped-refused ORDER (omega arith) (first-ring capacity (stateOf s pool scratch) k (h .ranged) (h .short) ∙ ap (λ (b : Bool). cond (not b) ORDER 0) e) q refl)
 
-  pub ring-stands : Room capacity s pool scratch → s .phase ≡ opening → Does capacity line s pool scratch (record { verdict = 0; state = ringed s k }) pool scratch
-  ring-stands room z =
+  pub ring-stands : {r : Step} → Room capacity s pool scratch → s .phase ≡ opening → (r .verdict ≡ 0) × (r .state ≡ ringed s k) → Does capacity line s pool scratch r pool scratch
+  ring-stands room z q =
       let e : eqb opening (s .phase) ≡ true = eq-eqb opening (s .phase) (sym z) in
       let o = room .ready in
-      does h (record {
+      does h (told q (record {
         verdict = first-ring capacity (stateOf s pool scratch) k (h .ranged) (h .short) ∙ ap (λ (b : Bool). cond (not b) ORDER 0) e;
         next = λ _. sym (after-ring (stateOf s pool scratch) k);
         ready = λ _. record {
@@ -122,7 +126,7 @@ module _ {line : Bytes} {capacity : ℕ} {s : State} {pool scratch : List ℕ} {
         untouched = λ _. refl;
         pool-length = refl;
         scratch-length = refl;
-      })
+      }))
 
 -- ---- del
 abbrev shrunk : State → Table → State
@@ -155,14 +159,14 @@ module _ {line : Bytes} {capacity : ℕ} {s : State} {pool scratch : List ℕ} {
       (first-del capacity (stateOf s pool scratch) x (h .ranged) (h .short) ∙ ap (λ (b : Bool). verdictOf b (stored (storeOf (s .table) pool) x)) e ∙ ap (λ (b : Bool). verdictOf true b) f) q refl)
 
   pub del-stands : (t : Table) (left : List ℕ) (j : ℕ) → Room capacity s pool scratch → s .phase ≡ steps → FirstAt (s .table .indices) (s .table .stored) x j
-      → Forgotten (s .table) pool j t left → length left ≡ length pool
-      → Does capacity line s pool scratch (record { verdict = 0; state = shrunk s t }) left scratch
-  del-stands t left j room z a f l =
+      → Forgotten (s .table) pool j t left → length left ≡ length pool → {r : Step} → (r .verdict ≡ 0) × (r .state ≡ shrunk s t)
+      → Does capacity line s pool scratch r left scratch
+  del-stands t left j room z a f l w =
       let e : eqb steps (s .phase) ≡ true = eq-eqb steps (s .phase) (sym z) in
       let d : stored (storeOf (s .table) pool) x ≡ true = found-stored (s .table) pool x j a in
       let o = room .ready in
       let q : storeOf t left ≡ remove (storeOf (s .table) pool) x = f .store x a in
-      does h (record {
+      does h (told w (record {
         verdict = first-del capacity (stateOf s pool scratch) x (h .ranged) (h .short) ∙ ap (λ (b : Bool). verdictOf b (stored (storeOf (s .table) pool) x)) e ∙ ap (λ (b : Bool). verdictOf true b) d;
         next = λ _. ap (λ (u : Store). record {
           phase = s .phase;
@@ -186,50 +190,4 @@ module _ {line : Bytes} {capacity : ℕ} {s : State} {pool scratch : List ℕ} {
         untouched = λ n. absurd (n refl);
         pool-length = l;
         scratch-length = refl;
-      })
-
--- ---- a polynomial kept under a free index
-goal-same : (s : State) (pool a b : List ℕ) → drop goalAt b ≡ drop goalAt a → stateOf s pool b ≡ stateOf s pool a
-goal-same s pool a b e = ap (λ (w : List ℕ). record {
-  phase = s .phase;
-  ring = modulo (s .ring);
-  store = storeOf (s .table) pool;
-  seen = stateOf s pool a .seen;
-  goal = decode (s .«goal_terms») w;
-  reached = s .reached;
-  products = s .products;
-}) e
-
-module _ {line : Bytes} {capacity : ℕ} {st : Statement} {s : State} {pool scratch : List ℕ} {i : ℕ} {p : Poly} {g : Gain} (h : Said line st) (room : Room capacity s pool scratch) where
-  pub keeps : {r : Step} {pool′ scratch′ : List ℕ} → drop goalAt scratch′ ≡ drop goalAt scratch → length scratch′ ≡ length scratch
-      → first (rules capacity (stateOf s pool scratch) st) ≡ fits capacity (storeOf (s .table) pool) (only i p)
-      → after (stateOf s pool scratch) st ≡ gained (stateOf s pool scratch) i p g
-      → stored (storeOf (s .table) pool) i ≡ false → g .products ≤ s .products + lineProducts
-      → Kept capacity i p g s pool scratch′ r pool′ → Does capacity line s pool scratch r pool′ scratch′
-  keeps {r} {pool′} {scratch′} same l e a free few k = does h (record {
-    verdict = e ∙ k .verdict;
-    next = λ z. follows z ∙ sym a;
-    ready = λ z. record {
-      fitting = k .fitting z;
-      room = omega (arith, o .room);
-      aim = omega (arith, o .aim, k .aim z);
-      ringed = λ w. turned z (o .ringed (omega (arith, ap (λ (x : paper.State). x .phase) (follows z))));
-      distinct = subst Distinct (sym (ap (λ (x : paper.State). x .store) (follows z)))
-          (distinct-append (storeOf (s .table) pool) (record { index = i; poly = p }) (o .distinct) free);
-      few = omega (arith, o .few, ap (λ (x : paper.State). x .products) (follows z));
-    };
-    lines = k .lines;
-    back = k .back;
-    untouched = k .untouched;
-    pool-length = k .pool-length;
-    scratch-length = l;
-  })
-    where
-      o : Ready capacity (s .lines) s pool scratch
-      o = room .ready
-
-      follows : r .verdict ≡ 0 → stateOf (r .state) pool′ scratch′ ≡ gained (stateOf s pool scratch) i p g
-      follows z = k .next z ∙ ap (λ (x : paper.State). gained x i p g) (goal-same s pool scratch scratch′ same)
-
-      turned : r .verdict ≡ 0 → (1 ≤ s .ring) × (s .ring ≤ greatestRing) → (1 ≤ r .state .ring) × (r .state .ring ≤ greatestRing)
-      turned z b = let q : r .state .ring ≡ s .ring = ap (λ (x : paper.State). bits (x .ring)) (follows z) in (omega (arith, b .0), omega (arith, b .1))
+      }))

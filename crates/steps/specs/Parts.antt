@@ -1,21 +1,14 @@
--- What the parts of a step say: the verdicts in their order, and a polynomial kept under an index.
+-- What the parts of a step say: the verdicts in their order, and the terms that are kept.
 use mathlib.Core.Path.{_≡_}
-use mathlib.Core.Bool.{Bool, not, cond}
-use mathlib.Core.List.{List, [], _∷_, _++_}
-use Prim.Native.Nat.{ℕ, _≤_}
-use lib.Dec.{eqb, ltb}
-use lib.ListN.{length}
-use Rattle.limits.specs.Limits.{fieldTerms, lineProducts, leastScratch}
+use mathlib.Core.Bool.{Bool, not, cond, _||_}
+use mathlib.Core.List.{List}
+use Prim.Native.Nat.{ℕ, _+_, _*_}
+use lib.Dec.{eqb, leb, ltb}
+use lib.ListN.{length, drop}
+use lib.Seq.{paste}
+use Rattle.limits.specs.Limits.{storedPolynomials, lineProducts, termWords}
 use Rattle.limits.specs.Verdicts.{ACCEPTED, ORDER, TAKEN, MISSING, SEEN, PRODUCTS, MISMATCH, NOTBIT, FULL}
-use Rattle.algebra.specs.Polynomial.{Poly}
-use Rattle.words.specs.Words.{number}
-use Rattle.paper.specs.Rules as paper
-use Rattle.paper.specs.Rules.{Store, overfull}
-use Rattle.table.specs.Table.{storeOf, Fitting}
-use Rattle.steps.specs.declared.state.State.{State}
-use Rattle.steps.specs.declared.state.Step.{Step}
-use Rattle.steps.specs.declared.state.Gain.{Gain}
-use Rattle.steps.specs.State.{stateOf}
+use Rattle.regions.specs.Regions.{statedAt}
 
 -- ---- the verdicts in their order, before a later one
 -- in its phase, with an index that is taken or not
@@ -30,35 +23,10 @@ sums present products same later = cond (not present) MISSING (cond (ltb linePro
 abbrev pub extends : Bool → ℕ → Bool → ℕ → ℕ
 extends seen products bit later = cond seen SEEN (cond (ltb lineProducts products) PRODUCTS (cond (not bit) NOTBIT later))
 
-abbrev pub fits : ℕ → Store → Store → ℕ
-fits capacity s es = cond (overfull capacity s es) FULL ACCEPTED
-
--- ---- a polynomial kept under an index
-abbrev pub only : ℕ → Poly → Store
-only i p = record { index = i; poly = p } ∷ []
-
-abbrev pub gained : paper.State → ℕ → Poly → Gain → paper.State
-gained s i p g = record {
-  phase = s .phase;
-  ring = s .ring;
-  store = s .store ++ only i p;
-  seen = number (g .seen);
-  goal = s .goal;
-  reached = g .reached;
-  products = g .products;
-}
-
--- n terms of the stated region can be kept
-abbrev pub Keepable : ℕ → ℕ → State → List ℕ → List ℕ → Type 0
-Keepable capacity n s pool scratch = Fitting (s .table) pool capacity × (leastScratch ≤ length scratch) × (n ≤ fieldTerms)
-
--- FULL, and all as it was; or p is the last entry
-pub record Kept (capacity i : ℕ) (p : Poly) (g : Gain) (s : State) (pool scratch : List ℕ) (r : Step) (pool′ : List ℕ) : Type 0 where
-  pub verdict : fits capacity (storeOf (s .table) pool) (only i p) ≡ r .verdict
-  pub next : r .verdict ≡ 0 → stateOf (r .state) pool′ scratch ≡ gained (stateOf s pool scratch) i p g
-  pub fitting : r .verdict ≡ 0 → Fitting (r .state .table) pool′ capacity
-  pub aim : r .verdict ≡ 0 → r .state .«goal_terms» ≡ s .«goal_terms»
-  pub lines : r .state .lines ≡ s .lines
-  pub back : (r .verdict ≡ 0 → ⊥) → r .state ≡ s
-  pub untouched : (r .verdict ≡ 0 → ⊥) → pool′ ≡ pool
-  pub pool-length : length pool′ ≡ length pool
+-- ---- the terms that are kept
+-- a verdict v stays; else the n terms of the stated region go behind the used ones of the pool, where there is room for a polynomial more
+pub record Keeps (v stored used n capacity : ℕ) (pool scratch : List ℕ) (r : ℕ) (pool′ : List ℕ) : Type 0 where
+  pub verdict : r ≡ cond (eqb v ACCEPTED) (cond (leb storedPolynomials stored || ltb capacity (used + n)) FULL ACCEPTED) v
+  pub kept : r ≡ 0 → pool′ ≡ paste pool (used * termWords) (drop statedAt scratch) (n * termWords)
+  pub untouched : (r ≡ 0 → ⊥) → pool′ ≡ pool
+  pub same : length pool′ ≡ length pool

@@ -5,39 +5,43 @@ ghost use mathlib.Core.List.{List};
 ghost use Prim.Native.Nat.{ℕ, _+_, _*_, _≤_, _<_};
 ghost use lib.Bits.{bitOr};
 ghost use lib.ListN.{length, drop};
-ghost use Rattle.words.specs.Parts.{Within};
-ghost use Rattle.limits.specs.Limits.{storedPolynomials, fieldTerms, lineProducts, termWords, variables, leastScratch};
-ghost use Rattle.algebra.specs.Polynomial.{vars, equal, reduce};
+ghost use Rattle.limits.specs.Limits.{storedPolynomials, fieldTerms, termWords, variables, leastScratch, mostPoolTerms};
+ghost use Rattle.algebra.specs.Polynomial.{vars, equal};
 ghost use Rattle.words.specs.Words.{number};
 ghost use Rattle.terms.specs.Terms.{decode};
-ghost use Rattle.paper.specs.Statement.{Pair};
+ghost use Rattle.paper.specs.Grammar.{polynomial};
+ghost use Rattle.paper.specs.Statement.{Written, Pair};
 ghost use Rattle.paper.specs.Rules.{stored};
+ghost use Rattle.reader.specs.Places.{Got};
+ghost use Rattle.fields.specs.Fields.{Good, isField};
 ghost use Rattle.table.specs.Table.{firsts, entryAt};
 ghost use Rattle.regions.specs.Regions.{statedAt, goalAt};
 ghost use Rattle.pairs.specs.Pairs.{PairsAt, PoolHolds};
-ghost use Rattle.steps.specs.Parts.{admits};
-ghost use Rattle.steps.specs.Checks.{Extends, Sums};
+ghost use Rattle.steps.specs.Parts.{admits, Keeps};
+ghost use Rattle.steps.specs.Checks.{Extends, AddsUp};
 use table::Column;
 use table::Found;
 use table::Indices;
 use table::find;
 use words::Set;
 
-// How a lin or an ext line is refused, or how many terms it made, the products of a lin or those of the -v + p of an ext,
-// and the variables seen then.
+// How a lin or an ext line is refused; or how many terms it has to store, those of the stated region, how many products it
+// made, and the variables seen then.
 pub struct Checked {
     pub verdict: u64,
     pub terms: usize,
+    pub products: usize,
     pub seen: Set,
 }
 
 // A line that is refused.
 fn refusal(verdict: u64, seen: Set) -> Checked
-    ensures { λ r. ⌜ r ≡ record { verdict = verdict; terms = 0; seen = seen } ⌝ }
+    ensures { λ r. ⌜ r ≡ record { verdict = verdict; terms = 0; products = 0; seen = seen } ⌝ }
 {
     Checked {
         verdict,
         terms: 0,
+        products: 0,
         seen,
     }
 }
@@ -98,23 +102,12 @@ pub(crate) fn extend(scratch: &mut [u64], n: usize, v: usize, k: u32, seen: Set)
     Checked {
         verdict: limits::ACCEPTED,
         terms: regions::define(scratch, n, v, k),
+        products: n * n,
         seen: words::with(all, v),
     }
 }
 
-// Whether the n terms of the stated region are the m terms from word 0 on, reduced modulo 2 ^ k.
-fn is_reduced(scratch: &mut [u64], n: usize, m: usize, k: u32) -> bool
-    requires { ⌜
-        (n ≤ fieldTerms) × (m ≤ lineProducts) × (leastScratch ≤ length (now scratch)) × (1 ≤ k)
-        × (k ≤ 64)
-        ⌝ }
-    ensures equals { λ r. ⌜ r ≡ equal (decode n (drop statedAt (now (scratch .entry)))) (reduce k (decode m (now (scratch .entry)))) ⌝ }
-    ensures within { λ _. ⌜ Within 0 statedAt (now (scratch .entry)) (now (scratch .exit)) ⌝ }
-{
-    terms::is_reduced(scratch, regions::STATED, n, m, k)
-}
-
-// Whether the pairs from the tab at at on name stored polynomials and give the stated terms of the stated region.
+// Reads the stated polynomial at at, and looks whether the pairs behind it name stored polynomials and add up to it.
 pub(crate) fn add_up<'a>(
     indices: &'a Indices,
     starts: &'a Column,
@@ -124,30 +117,61 @@ pub(crate) fn add_up<'a>(
     at: usize,
     pool: &[u64],
     scratch: &mut [u64],
-    stated: usize,
     k: u32,
     seen: Set,
 ) -> Checked
     requires { ⌜
-        ((qs : List Pair) × PairsAt (now line) at qs) × PoolHolds (now starts) (now counts) n (now pool)
-        × (stated ≤ fieldTerms) × (leastScratch ≤ length (now scratch)) × (1 ≤ k) × (k ≤ 64)
+        Good polynomial isField (now line) at
+        × ((w : Written) (e : ℕ) → Got polynomial (now line) at w e → (qs : List Pair) × PairsAt (now line) e qs)
+        × PoolHolds (now starts) (now counts) n (now pool) × (leastScratch ≤ length (now scratch)) × (1 ≤ k) × (k ≤ 64)
         ⌝ }
-    ensures { λ r. ⌜
-        ((qs : List Pair) → PairsAt (now (line .entry)) at qs
-        → Sums k (firsts (entryAt (now (indices .entry)) (now (starts .entry)) (now (counts .entry)) (now (pool .entry))) n) qs stated (number seen) (now (scratch .entry)) (now (scratch .exit)) r)
-        ⌝ }
+    ensures { λ r. ⌜ AddsUp (now (line .entry)) at k (firsts (entryAt (now (indices .entry)) (now (starts .entry)) (now (counts .entry)) (now (pool .entry))) n) (number seen) (now (scratch .entry)) (now (scratch .exit)) r ⌝ }
 {
-    let sum = pairs::sum_pairs(indices, starts, counts, n, line, at, pool, scratch, k, seen);
+    let f = regions::read_reduced(line, at, scratch, regions::STATED, k);
+    let e = f.end;
+    let sum = pairs::sum_pairs(indices, starts, counts, n, line, e, pool, scratch, k, seen);
     if sum.verdict != limits::ACCEPTED {
         return refusal(sum.verdict, seen);
     }
-    if !is_reduced(scratch, stated, sum.terms, k) {
+    if !terms::is_reduced(scratch, regions::STATED, f.terms, sum.terms, k) {
         return refusal(limits::MISMATCH, seen);
     }
-    let all = sum.seen;
+    let factors = sum.seen;
     Checked {
         verdict: limits::ACCEPTED,
-        terms: sum.terms,
-        seen: all,
+        terms: f.terms,
+        products: sum.terms,
+        seen: seen_with(scratch, regions::STATED, f.terms, factors),
     }
+}
+
+// The verdict v; where it is ACCEPTED and there is no room for a polynomial of n terms more, FULL; and where there is, the n terms
+// of the stated region stand behind the used ones of the pool.
+pub(crate) fn keep(
+    v: u64,
+    stored: usize,
+    used: usize,
+    n: usize,
+    pool: &mut [u64],
+    scratch: &[u64],
+    capacity: usize,
+) -> u64
+    requires { ⌜
+        (v ≡ 0 → n ≤ fieldTerms) × (used ≤ capacity) × (capacity * termWords ≤ length (now pool)) × (capacity ≤ mostPoolTerms)
+        × (leastScratch ≤ length (now scratch))
+        ⌝ }
+    ensures { λ r. ⌜ Keeps v stored used n capacity (now (pool .entry)) (now (scratch .entry)) r (now (pool .exit)) ⌝ }
+{
+    if v != limits::ACCEPTED {
+        return v;
+    }
+    if limits::STORED_POLYNOMIALS <= stored {
+        return limits::FULL;
+    }
+    if capacity < used + n {
+        return limits::FULL;
+    }
+    let end = used * limits::TERM_WORDS;
+    terms::move_run(&scratch[regions::STATED..], n, pool, end);
+    limits::ACCEPTED
 }

@@ -6,9 +6,9 @@ ghost use Rattle.steps.specs.Steps.{Says, Room, Does};
 use super::check::add_up;
 use super::check::admit;
 use super::check::extend;
+use super::check::keep;
 use super::check::reaches;
 use super::check::seen_with;
-use super::state::Gain;
 use super::state::INPUTS;
 use super::state::OPENING;
 use super::state::STEPS;
@@ -20,6 +20,8 @@ use table::close;
 use table::close_gap;
 use table::close_indices;
 use table::find;
+use table::put;
+use table::put_index;
 
 impl State {
     // ring k
@@ -28,15 +30,12 @@ impl State {
         ensures { λ r. ⌜ ((capacity : ℕ) (pool scratch : List ℕ) → Room capacity self pool scratch → Does capacity (now (line .entry)) self pool scratch r pool scratch) ⌝ }
     {
         if self.phase != OPENING {
-            return self.refuse(limits::ORDER);
+            return self.judged(limits::ORDER);
         }
         let k = small_at(line, 5);
         self.ring = k.value;
         self.phase = INPUTS;
-        Step {
-            verdict: limits::ACCEPTED,
-            state: self,
-        }
+        self.judged(limits::ACCEPTED)
     }
 
     // del index
@@ -45,12 +44,12 @@ impl State {
         ensures { λ r. ⌜ ((capacity : ℕ) (scratch : List ℕ) → Room capacity self (now (pool .entry)) scratch → Does capacity (now (line .entry)) self (now (pool .entry)) scratch r (now (pool .exit)) scratch) ⌝ }
     {
         if self.phase != STEPS {
-            return self.refuse(limits::ORDER);
+            return self.judged(limits::ORDER);
         }
         let index = small_at(line, 4);
         let found = find(&self.table.indices, self.table.stored, index.value);
         let Found::At(j) = found else {
-            return self.refuse(limits::MISSING);
+            return self.judged(limits::MISSING);
         };
         let n = self.table.stored;
         let used = self.table.used;
@@ -66,10 +65,7 @@ impl State {
         );
         self.table.stored = n - 1;
         self.table.used = used - len;
-        Step {
-            verdict: limits::ACCEPTED,
-            state: self,
-        }
+        self.judged(limits::ACCEPTED)
     }
 
     // in index polynomial
@@ -83,26 +79,28 @@ impl State {
         requires { ⌜ Says (now line) Input × Room limit self (now pool) (now scratch) ⌝ }
         ensures { λ r. ⌜ Does limit (now (line .entry)) self (now (pool .entry)) (now (scratch .entry)) r (now (pool .exit)) (now (scratch .exit)) ⌝ }
     {
+        let mut state = self;
         let index = small_at(line, 3);
-        let i = index.value;
-        let v = admit(
-            self.phase,
-            INPUTS,
-            &self.table.indices,
-            self.table.stored,
-            i,
-        );
+        let at = state.table.stored;
+        let v = admit(state.phase, INPUTS, &state.table.indices, at, index.value);
         if v != limits::ACCEPTED {
-            return self.refuse(v);
+            return state.judged(v);
         }
-        let f = regions::read_reduced(line, index.end + 1, scratch, regions::STATED, self.ring);
-        let n = f.terms;
-        let gain = Gain {
-            seen: seen_with(scratch, regions::STATED, n, self.seen),
-            reached: false,
-            products: self.products,
-        };
-        self.store(i, n, gain, pool, scratch, limit)
+        let f = regions::read_reduced(line, index.end + 1, scratch, regions::STATED, state.ring);
+        let used = state.table.used;
+        let v = keep(limits::ACCEPTED, at, used, f.terms, pool, scratch, limit);
+        if v != limits::ACCEPTED {
+            return state.judged(v);
+        }
+        put_index(&mut state.table.indices, at, index.value);
+        put(&mut state.table.starts, at, used as u16);
+        put(&mut state.table.counts, at, f.terms as u16);
+        state.table.stored = at + 1;
+        state.table.used = used + f.terms;
+        let seen = seen_with(scratch, regions::STATED, f.terms, state.seen);
+        state.seen = seen;
+        state.reached = false;
+        state.judged(limits::ACCEPTED)
     }
 
     // goal polynomial
@@ -114,7 +112,7 @@ impl State {
             ⌝ }
     {
         if self.phase != INPUTS {
-            return self.refuse(limits::ORDER);
+            return self.judged(limits::ORDER);
         }
         let f = regions::read_reduced(line, 5, scratch, regions::GOAL, self.ring);
         let n = f.terms;
@@ -130,10 +128,7 @@ impl State {
         self.seen = seen;
         self.goal_terms = n;
         self.phase = STEPS;
-        Step {
-            verdict: limits::ACCEPTED,
-            state: self,
-        }
+        self.judged(limits::ACCEPTED)
     }
 
     // lin index polynomial pairs
@@ -141,36 +136,40 @@ impl State {
         requires { ⌜ Says (now line) Lin × Room limit self (now pool) (now scratch) ⌝ }
         ensures { λ r. ⌜ Does limit (now (line .entry)) self (now (pool .entry)) (now (scratch .entry)) r (now (pool .exit)) (now (scratch .exit)) ⌝ }
     {
+        let mut state = self;
         let index = small_at(line, 4);
-        let i = index.value;
-        let v = admit(self.phase, STEPS, &self.table.indices, self.table.stored, i);
+        let at = state.table.stored;
+        let v = admit(state.phase, STEPS, &state.table.indices, at, index.value);
         if v != limits::ACCEPTED {
-            return self.refuse(v);
+            return state.judged(v);
         }
-        let f = regions::read_reduced(line, index.end + 1, scratch, regions::STATED, self.ring);
         let sum = add_up(
-            &self.table.indices,
-            &self.table.starts,
-            &self.table.counts,
-            self.table.stored,
+            &state.table.indices,
+            &state.table.starts,
+            &state.table.counts,
+            at,
             line,
-            f.end,
+            index.end + 1,
             pool,
             scratch,
-            f.terms,
-            self.ring,
-            self.seen,
+            state.ring,
+            state.seen,
         );
-        if sum.verdict != limits::ACCEPTED {
-            return self.refuse(sum.verdict);
+        let used = state.table.used;
+        let v = keep(sum.verdict, at, used, sum.terms, pool, scratch, limit);
+        if v != limits::ACCEPTED {
+            return state.judged(v);
         }
-        let factors = sum.seen;
-        let gain = Gain {
-            seen: seen_with(scratch, regions::STATED, f.terms, factors),
-            reached: reaches(self.reached, scratch, f.terms, self.goal_terms),
-            products: self.products + sum.terms as u64,
-        };
-        self.store(i, f.terms, gain, pool, scratch, limit)
+        put_index(&mut state.table.indices, at, index.value);
+        put(&mut state.table.starts, at, used as u16);
+        put(&mut state.table.counts, at, sum.terms as u16);
+        state.table.stored = at + 1;
+        state.table.used = used + sum.terms;
+        let seen = sum.seen;
+        state.seen = seen;
+        state.reached = reaches(state.reached, scratch, sum.terms, state.goal_terms);
+        state.products += sum.products as u64;
+        state.judged(limits::ACCEPTED)
     }
 
     // ext index variable polynomial
@@ -178,25 +177,30 @@ impl State {
         requires { ⌜ Says (now line) Ext × Room limit self (now pool) (now scratch) ⌝ }
         ensures { λ r. ⌜ Does limit (now (line .entry)) self (now (pool .entry)) (now (scratch .entry)) r (now (pool .exit)) (now (scratch .exit)) ⌝ }
     {
+        let mut state = self;
         let index = small_at(line, 4);
-        let i = index.value;
-        let v = admit(self.phase, STEPS, &self.table.indices, self.table.stored, i);
+        let at = state.table.stored;
+        let v = admit(state.phase, STEPS, &state.table.indices, at, index.value);
         if v != limits::ACCEPTED {
-            return self.refuse(v);
+            return state.judged(v);
         }
         let x = small_at(line, index.end + 1);
-        let f = regions::read_reduced(line, x.end + 1, scratch, regions::STATED, self.ring);
-        let n = f.terms;
-        let made = extend(scratch, n, x.value as usize, self.ring, self.seen);
-        if made.verdict != limits::ACCEPTED {
-            return self.refuse(made.verdict);
+        let f = regions::read_reduced(line, x.end + 1, scratch, regions::STATED, state.ring);
+        let made = extend(scratch, f.terms, x.value as usize, state.ring, state.seen);
+        let used = state.table.used;
+        let v = keep(made.verdict, at, used, made.terms, pool, scratch, limit);
+        if v != limits::ACCEPTED {
+            return state.judged(v);
         }
+        put_index(&mut state.table.indices, at, index.value);
+        put(&mut state.table.starts, at, used as u16);
+        put(&mut state.table.counts, at, made.terms as u16);
+        state.table.stored = at + 1;
+        state.table.used = used + made.terms;
         let seen = made.seen;
-        let gain = Gain {
-            seen,
-            reached: reaches(self.reached, scratch, made.terms, self.goal_terms),
-            products: self.products + (n * n) as u64,
-        };
-        self.store(i, made.terms, gain, pool, scratch, limit)
+        state.seen = seen;
+        state.reached = reaches(state.reached, scratch, made.terms, state.goal_terms);
+        state.products += made.products as u64;
+        state.judged(limits::ACCEPTED)
     }
 }

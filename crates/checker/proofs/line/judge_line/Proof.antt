@@ -4,11 +4,11 @@ use borrow.Author.Needs.{needs}
 use Rattle.checker.proofs.line.judge_line.Statement.{statement}
 use Rattle.checker.proofs.line.judge_line.Tie as tie
 
-refuse-requires : tie.Need-refuse-requires
-refuse-requires c κs = search needs
+judged-requires : tie.Need-judged-requires
+judged-requires c κs = search needs
 
 returns : tie.Need-returns
-returns c = judged-long (c .before .if1 .taken) (c .refuse .ensures)
+returns c = judged-long (c .before .if1 .taken) (c .judged .ensures)
 
 scan-line-requires : tie.Need-scan-line-requires
 scan-line-requires c κs = search needs
@@ -19,17 +19,17 @@ enum-known-scan c = search needs
 enum-told : tie.Need-enum-told
 enum-told c = search needs
 
-refuse-requires-2 : tie.Need-refuse-requires-2
-refuse-requires-2 c κs = search needs
+judged-requires-2 : tie.Need-judged-requires-2
+judged-requires-2 c κs = search needs
 
 returns-2 : tie.Need-returns-2
-returns-2 c = judged-stuck (c .before .before .before .before .if1 .left) _ (halted (c .before .enum-told .given .1) (c .before .before .before .scan-line .ensures) .reads) (c .refuse2 .ensures)
+returns-2 c = judged-stuck (c .before .before .before .before .if1 .left) _ (halted (c .before .enum-told .given .1) (c .before .before .before .scan-line .ensures) .reads) (c .judged2 .ensures)
 
-refuse-requires-3 : tie.Need-refuse-requires-3
-refuse-requires-3 c κs = search needs
+judged-requires-3 : tie.Need-judged-requires-3
+judged-requires-3 c κs = search needs
 
 returns-3 : tie.Need-returns-3
-returns-3 c = judged-scan (c .before .before .before .before .before .before .if1 .left) (scanned (c .before .before .before .scan .given .1) (c .before .before .before .before .before .scan-line .ensures)) (c .before .if2 .taken) (c .refuse3 .ensures)
+returns-3 c = judged-scan (c .before .before .before .before .before .before .if1 .left) (scanned (c .before .before .before .scan .given .1) (c .before .before .before .before .before .scan-line .ensures)) (c .before .if2 .taken) (c .judged3 .ensures)
 
 step-requires : tie.Need-step-requires
 step-requires c κs = (stands-says (scanned (c .before .before .before .before .scan .given .1) (c .before .before .before .before .before .before .scan-line .ensures)) (c .before .before .if2 .left), c .before .before .before .before .before .before .before .before .before .before .before .pre)
@@ -47,14 +47,14 @@ pub judge-line-spec : {M : Type 1} → statement M
 judge-line-spec =
     tie.close
     (tie.spec
-    refuse-requires
+    judged-requires
     returns
     scan-line-requires
     enum-known-scan
     enum-told
-    refuse-requires-2
+    judged-requires-2
     returns-2
-    refuse-requires-3
+    judged-requires-3
     returns-3
     step-requires
     same-length

@@ -63,6 +63,12 @@ define-requires c κs =
     let b = c .before .before .before .before .before .before .before .before .before .before .before .before in
     (omega (arith, side (b .args .n) (c .before .before .before .before .before .before .if2 .left)), b .pre .1, omega (arith, c .before .before .before .before .is-bit .ensures .1 .same), b .pre .3, b .pre .4)
 
+mul-t17 : tie.Need-mul-t17
+mul-t17 c =
+    let b = c .before .before .before .before .before .before .before .before .before .before .before .before .before .before .before in
+    let m = mul-le-mul (b .pre .0) (b .pre .0) in
+    omega arith
+
 with-requires : tie.Need-with-requires
 with-requires c κs = search needs
 
@@ -95,6 +101,7 @@ extend-spec =
     same-length-3
     returns-3
     define-requires
+    mul-t17
     with-requires
     same-length-4
     returns-4)

@@ -14,11 +14,11 @@ use borrow.Author.Needs.{needs}
 use Rattle.steps.proofs.state.State.step_del.Statement.{statement}
 use Rattle.steps.proofs.state.State.step_del.Tie as tie
 
-refuse-requires : tie.Need-refuse-requires
-refuse-requires c κs = search needs
+judged-requires : tie.Need-judged-requires
+judged-requires c κs = search needs
 
 returns : tie.Need-returns
-returns c = λ capacity scratch room. del-misplaced (said (c .before .before .before .before .pre .0) .1) (c .before .if1 .taken) (c .refuse .ensures)
+returns c = λ capacity scratch room. del-misplaced (said (c .before .before .before .before .pre .0) .1) (c .before .if1 .taken) (c .judged .ensures)
 
 small-at-requires : tie.Need-small-at-requires
 small-at-requires c κs = del-number (c .before .before .before .pre .0)
@@ -32,14 +32,14 @@ enum-known-found c = search needs
 enum-told : tie.Need-enum-told
 enum-told c = search needs
 
-refuse-requires-2 : tie.Need-refuse-requires-2
-refuse-requires-2 c κs = search needs
+judged-requires-2 : tie.Need-judged-requires-2
+judged-requires-2 c κs = search needs
 
 returns-2 : tie.Need-returns-2
 returns-2 c =
     let b = c .before .before .before .before .before .before .before .before .before .before in
     λ capacity scratch room. del-missing (del-read (b .pre .0) (c .before .before .before .before .before .before .small-at .ensures)) (c .before .before .before .before .before .before .before .if1 .left)
-    (absent-stored (b .args .t1 .table) (b .args .pool .now) _ (found-nothing (c .before .enum-told .given .1) (c .before .before .before .find .ensures))) (c .refuse2 .ensures)
+    (absent-stored (b .args .t1 .table) (b .args .pool .now) _ (found-nothing (c .before .enum-told .given .1) (c .before .before .before .find .ensures))) (c .judged2 .ensures)
 
 -- how long the columns are
 long : (c : tie.Start) → let t = c .args .t1 .table in (length (t .indices) ≡ storedPolynomials) × (length (t .starts) ≡ storedPolynomials) × (length (t .counts) ≡ storedPolynomials)
@@ -108,12 +108,15 @@ sub-self c = omega (arith, first (c .before .before .before .before .before .bef
 sub-self-2 : tie.Need-sub-self-2
 sub-self-2 c = let e = ends (c .before .before .before .before .before .before .before .before .before .before .before) in omega (arith, c .before .before .before .before .before .before .before .before .before .close .ensures .0)
 
+judged-requires-3 : tie.Need-judged-requires-3
+judged-requires-3 c κs = search needs
+
 same-length : tie.Need-same-length
 same-length c = search needs
 
 returns-3 : tie.Need-returns-3
 returns-3 c =
-    let g = c .before .before .before .before in
+    let g = c .before .before .before .before .before in
     let c₃ = g .before .before in
     let c₂ = c₃ .before .before in
     let c₁ = c₂ .before .before in
@@ -123,19 +126,19 @@ returns-3 c =
     λ capacity scratch room. del-stands (del-read (b .pre .0) (k .before .before .before .before .before .before .small-at .ensures)) _ _ _ room (k .before .before .before .before .before .before .before .if1 .left) (first k)
     (forgotten s (b .args .pool .now) _ _ _ _ _ _ _ (room .ready .fitting .packed) (first k .inside) (omega (arith, room .ready .fitting .room, room .ready .fitting .words))
     (c₂ .close2 .ensures .0) (c₁ .close .ensures .0) (c₃ .close-indices .ensures) (c₂ .close2 .ensures .1) (c₁ .close .ensures .1) (g .close-gap .ensures))
-    (search needs)
+    (search needs) (c .judged3 .ensures)
 
 pub step-del-spec : {M : Type 1} → statement M
 step-del-spec =
     tie.close
     (tie.spec
-    refuse-requires
+    judged-requires
     returns
     small-at-requires
     find-requires
     enum-known-found
     enum-told
-    refuse-requires-2
+    judged-requires-2
     returns-2
     close-requires
     close-requires-2
@@ -148,5 +151,6 @@ step-del-spec =
     close-gap-requires
     sub-self
     sub-self-2
+    judged-requires-3
     same-length
     returns-3)

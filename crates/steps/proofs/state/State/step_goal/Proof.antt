@@ -14,11 +14,11 @@ use borrow.Author.Needs.{needs}
 use Rattle.steps.proofs.state.State.step_goal.Statement.{statement}
 use Rattle.steps.proofs.state.State.step_goal.Tie as tie
 
-refuse-requires : tie.Need-refuse-requires
-refuse-requires c κs = search needs
+judged-requires : tie.Need-judged-requires
+judged-requires c κs = search needs
 
 returns : tie.Need-returns
-returns c = λ capacity room. goal-misplaced (c .before .before .before .before .before .pre .0) (c .before .if1 .taken) (c .refuse .ensures)
+returns c = λ capacity room. goal-misplaced (c .before .before .before .before .before .pre .0) (c .before .if1 .taken) (c .judged .ensures)
 
 read-reduced-requires : tie.Need-read-reduced-requires
 read-reduced-requires c κs =
@@ -43,23 +43,27 @@ is-stored-requires c κs =
 seen-with-requires : tie.Need-seen-with-requires
 seen-with-requires c κs = search needs
 
+judged-requires-2 : tie.Need-judged-requires-2
+judged-requires-2 c κs = search needs
+
 same-length : tie.Need-same-length
 same-length c = search needs
 
 returns-2 : tie.Need-returns-2
 returns-2 c =
-    let b = c .before .before .before .before .before .before .before .before .before .before .before .before .before .before .before .before .before in
-    let d = c .before .before .before .before .before .before .before .before .before .before .before .read-reduced in
+    let b = c .before .before .before .before .before .before .before .before .before .before .before .before .before .before .before .before .before .before in
+    let d = c .before .before .before .before .before .before .before .before .before .before .before .before .read-reduced in
     let w = d .last .1 .1 .0 in
-    λ capacity room. goal-stands (b .pre .0) room (c .before .before .before .before .before .before .before .before .before .before .before .before .before .if1 .left) (d .ensures) (c .seen-with .ensures)
-    (c .before .before .before .is-stored .ensures (b .args .t1 .table .indices)
+    λ capacity room. goal-stands (b .pre .0) room (c .before .before .before .before .before .before .before .before .before .before .before .before .before .before .if1 .left) (d .ensures) (c .before .seen-with .ensures)
+    (c .before .before .before .before .is-stored .ensures (b .args .t1 .table .indices)
     ∙ ap (λ (p : Poly). holdsGoal p (storeOf (b .args .t1 .table) (b .args .pool .now))) (decode-part (d .result .terms) goalAt (length w - goalAt) w (omega (arith, d .ensures .within .same))))
+    (c .judged2 .ensures)
 
 pub step-goal-spec : {M : Type 1} → statement M
 step-goal-spec =
     tie.close
     (tie.spec
-    refuse-requires
+    judged-requires
     returns
     read-reduced-requires
     sub-is-stored
@@ -67,5 +71,6 @@ step-goal-spec =
     part-is-stored-end
     is-stored-requires
     seen-with-requires
+    judged-requires-2
     same-length
     returns-2)
