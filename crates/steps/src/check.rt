@@ -111,7 +111,7 @@ fn is_reduced(scratch: &mut [u64], n: usize, m: usize, k: u32) -> bool
     ensures equals { λ r. ⌜ r ≡ equal (decode n (drop statedAt (now (scratch .entry)))) (reduce k (decode m (now (scratch .entry)))) ⌝ }
     ensures within { λ _. ⌜ Within 0 statedAt (now (scratch .entry)) (now (scratch .exit)) ⌝ }
 {
-    terms::is_reduced(scratch, regions::STATED, n, m, k)
+    reduction::is_reduced(scratch, regions::STATED, n, m, k)
 }
 
 // Whether the pairs from the tab at at on name stored polynomials and give the stated terms of the stated region.
