@@ -1,5 +1,5 @@
 #!/usr/bin/env bash
-# Instructions per term that terms::reduce needs, by callgrind: less those of a run with no terms, the fill of the run included.
+# Instructions per term that reduction::reduce needs, by callgrind: less those of a run with no terms, the fill of the run included.
 # Needs valgrind and a built target/bin/reduce_cost (`rt check reduce_cost`).
 set -euo pipefail
 cd "$(dirname "$0")/.."

@@ -97,7 +97,7 @@ fn main() {
     let order = order_in(&text[..size]);
     let mut run = [0u64; MOST * limits::TERM_WORDS];
     fill(&mut run, order, n);
-    let left = terms::reduce(&mut run, n, 64);
+    let left = reduction::reduce(&mut run, n, 64);
     io::print_decimal(1, left as u64);
     io::write_all(1, b"\n");
 }

@@ -6,7 +6,7 @@ use Prim.Native.Nat.{ℕ, _+_, _*_}
 use Rattle.limits.specs.Limits.{fieldTerms, termWords}
 use Rattle.algebra.specs.Polynomial.{Poly}
 use Rattle.words.proofs.Laws.{Words}
-use Rattle.terms.proofs.Decided.{SameRun, same-run}
+use Rattle.reduction.proofs.Decided.{SameRun, same-run}
 use Rattle.paper.specs.Grammar.{Bytes, polynomial}
 use Rattle.paper.specs.Statement.{reduced}
 use Rattle.reader.proofs.Fields.{same-end}

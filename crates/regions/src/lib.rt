@@ -35,7 +35,7 @@ pub fn read_reduced(line: &[u8], at: usize, scratch: &mut [u64], base: usize, k:
     let last = base + REGION;
     let f = fields::read_field(line, at, &mut scratch[base..last]);
     let n = f.terms;
-    let terms = terms::reduce(&mut scratch[base..last], n, k);
+    let terms = reduction::reduce(&mut scratch[base..last], n, k);
     FieldRun { terms, end: f.end }
 }
 
@@ -86,7 +86,7 @@ pub fn is_bit(scratch: &mut [u64], n: usize, k: u32) -> bool
     ensures within { λ _. ⌜ Within 0 statedAt (now (scratch .entry)) (now (scratch .exit)) ⌝ }
 {
     square(scratch, n);
-    terms::is_reduced(scratch, STATED, n, n * n, k)
+    reduction::is_reduced(scratch, STATED, n, n * n, k)
 }
 
 // Makes -v + p of p, the n terms of the stated region, and gives how many terms it has.
@@ -97,7 +97,7 @@ pub fn define(scratch: &mut [u64], n: usize, v: usize, k: u32) -> usize
     let set = words::with([0; limits::SET_WORDS], v);
     let t = terms::term_of(set, u64::MAX);
     terms::write_term(scratch, STATED + n * limits::TERM_WORDS, t);
-    terms::reduce(&mut scratch[STATED..FACTOR], n + 1, k)
+    reduction::reduce(&mut scratch[STATED..FACTOR], n + 1, k)
 }
 
 // Whether the n terms of the stated region are the goal.

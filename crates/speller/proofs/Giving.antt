@@ -13,8 +13,7 @@ use Rattle.limits.specs.Verdicts.{ACCEPTED, SHORT, LONGLINE, FULL}
 use Rattle.algebra.specs.Polynomial.{Poly, reduce, Reduced}
 use Rattle.algebra.proofs.Reduced.{reduced-reduce}
 use Rattle.algebra.proofs.Sums.{bound, below-bound}
-use Rattle.terms.specs.Terms.{decode, Leaves}
-use Rattle.terms.specs.Order.{none}
+use Rattle.terms.specs.Terms.{none, decode, Leaves}
 use Rattle.paper.specs.Grammar.{Bytes, polynomial}
 use Rattle.paper.specs.Statement.{Written, tooManyTerms, asTerm, reduced}
 use Rattle.paper.specs.Spelling.{Spelled, refuse, spell, spellRead, wholeField, spellField, outputAfter, scratchAfter}

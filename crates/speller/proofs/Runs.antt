@@ -15,8 +15,7 @@ use Rattle.ground.proofs.Tests.{by-cond}
 use Rattle.limits.specs.Limits.{setWords, termWords, variables}
 use Rattle.algebra.specs.Polynomial.{members, Term, Poly}
 use Rattle.words.specs.Words.{number}
-use Rattle.terms.specs.Terms.{termOf, decode}
-use Rattle.terms.specs.Order.{none}
+use Rattle.terms.specs.Terms.{termOf, none, decode}
 use Rattle.terms.proofs.Decode.{decode-at, decode-length}
 use Rattle.paper.specs.Grammar.{Bytes, bytes}
 use Rattle.paper.specs.Spelling.{spellCoefficient, spellTerm, spell}

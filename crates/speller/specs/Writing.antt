@@ -8,7 +8,7 @@ use lib.ListN.{length, take, drop, getD}
 use Rattle.ground.specs.Lists.{total}
 use Rattle.limits.specs.Limits.{variables}
 use Rattle.algebra.specs.Polynomial.{members, Term, Poly}
-use Rattle.terms.specs.Order.{none}
+use Rattle.terms.specs.Terms.{none}
 use Rattle.paper.specs.Grammar.{Bytes}
 use Rattle.paper.specs.Spelling.{spellNumber, spellTerm}
 use Rattle.speller.specs.declared.sign.Signed.{Signed}

@@ -62,7 +62,7 @@ fn reduce_field(field: &[u8], k: u32, scratch: &mut [u64]) -> usize
     ensures { λ r. ⌜ Holds (now (field .entry)) k (now (scratch .exit)) r ⌝ }
 {
     let f = fields::read_field(field, 0, scratch);
-    terms::reduce(scratch, f.terms, k)
+    reduction::reduce(scratch, f.terms, k)
 }
 
 // Writes a run of n terms, if the output has room for it.

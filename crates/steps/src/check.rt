@@ -133,7 +133,7 @@ pub(crate) fn add_up<'a>(
     if sum.verdict != limits::ACCEPTED {
         return refusal(sum.verdict, seen);
     }
-    if !terms::is_reduced(scratch, regions::STATED, f.terms, sum.terms, k) {
+    if !reduction::is_reduced(scratch, regions::STATED, f.terms, sum.terms, k) {
         return refusal(limits::MISMATCH, seen);
     }
     let factors = sum.seen;

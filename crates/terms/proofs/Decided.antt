@@ -1,5 +1,4 @@
--- The contracts of `terms` decide their results and buffers, but for the words that `reduce` leaves behind its terms.
--- Assumes nothing.
+-- The contracts of `terms` decide their results and buffers. Assumes nothing.
 use mathlib.Core.Path.{_≡_, refl, sym, ap, ap₂, _∙_}
 use mathlib.Core.List.{List, _++_}
 use Prim.Native.Nat.{ℕ, zero, suc, min, _+_, _-_, _*_, _^_, _≤_}
@@ -13,10 +12,10 @@ use Rattle.words.specs.Words.{number}
 use Rattle.words.proofs.Laws.{Words, words-take, words-drop, number-inj, number-take}
 use Rattle.words.proofs.Parts.{drop-take}
 use Rattle.words.proofs.Decided.{one-within}
-use Rattle.terms.specs.Terms.{termOf, decode, Leaves, Appended}
-use Rattle.terms.proofs.Decode.{decode-length, term-part}
+use Rattle.terms.specs.Terms.{termOf, decode, Appended}
+use Rattle.terms.proofs.Decode.{term-part}
 
--- ---- `term_of`, `product_of`: a term by what it stands for
+-- ---- `term_of`: a term by what it stands for
 number-of : (t : List ℕ) → length t ≤ termWords → number t ≡ termOf t .coef * 2 ^ (64 * setWords) + termOf t .set
 unfolding termOf
 number-of t l = ap number (sym (take-all termWords t l)) ∙ number-take t setWords
@@ -73,28 +72,3 @@ one-appended out n m p s r q f g x y =
         ap₂ take d (sym (drop-drop (n * termWords) out l))
         ∙ sym (drop-take (n * termWords) (m * termWords) (drop out l))
         ∙ ap (λ (k : ℕ). drop (n * termWords) (part out k l)) e
-
--- ---- `reduce`: how many terms, their words, and all words outside the region. The others of the region are left open.
--- of two runs in the region from word a up to e
-pub record SameRun (a e : ℕ) (r q : List ℕ) (i j : ℕ) : Type 0 where
-  pub count : i ≡ j
-  pub words : part a (i * termWords) r ≡ part a (i * termWords) q
-  pub before : take a r ≡ take a q
-  pub after : drop e r ≡ drop e q
-  pub length : length r ≡ length q
-
-pub same-run : (a e : ℕ) (p : Poly) (s r q : List ℕ) (i j : ℕ) → Words r → Words q → Within a e s r → Within a e s q → decode i (drop a r) ≡ p → decode j (drop a q) ≡ p
-    → SameRun a e r q i j
-same-run a e p s r q i j f g v w x y =
-    let c : i ≡ j = sym (decode-length i (drop a r)) ∙ ap length (x ∙ sym y) ∙ decode-length j (drop a q) in
-    let d : decode i (drop a r) ≡ decode i (drop a q) = x ∙ sym y ∙ ap (λ (k : ℕ). decode k (drop a q)) (sym c) in
-    record {
-      count = c;
-      words = one-run-at a i r q (v .same ∙ sym (w .same)) f g d;
-      before = v .before ∙ sym (w .before);
-      after = v .after ∙ sym (w .after);
-      length = v .same ∙ sym (w .same);
-    }
-
-pub left-alike : (n : ℕ) (p : Poly) (s r q : List ℕ) (i j : ℕ) → Words r → Words q → Leaves n p s r i → Leaves n p s q j → SameRun 0 (n * termWords) r q i j
-left-alike n p s r q i j f g x y = same-run 0 (n * termWords) p s r q i j f g (x .within) (y .within) (x .terms) (y .terms)

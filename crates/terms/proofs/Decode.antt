@@ -11,8 +11,7 @@ use Rattle.words.proofs.Parts.{take-fewer, drop-more, drop-take, below-kept, pa
 use Rattle.limits.specs.Limits.{setWords, termWords}
 use Rattle.algebra.specs.Polynomial.{Term, Poly}
 use Rattle.words.specs.Words.{number}
-use Rattle.terms.specs.Terms.{termOf, decode}
-use Rattle.terms.specs.Order.{none}
+use Rattle.terms.specs.Terms.{termOf, none, decode}
 
 pub decode-length : (n : ℕ) (s : List ℕ) → length (decode n s) ≡ n
 unfolding decode

@@ -1,16 +1,6 @@
 pub mod Decode
-pub mod SameTerms
-pub mod Heaps
-pub mod Sorting
-pub mod Draining
-pub mod Sliding
-pub mod Settling
 pub mod Rounding
 pub mod Comparing
-pub mod Merging
 pub mod Products
 pub mod Runs
-pub mod Places
-pub mod Passes
-pub mod Gathering
 pub mod Decided

@@ -16,8 +16,7 @@ use Rattle.words.proofs.Parts.{part-rest}
 use Rattle.limits.specs.Limits.{setWords, termWords}
 use Rattle.algebra.specs.Polynomial.{Poly, equal, vars}
 use Rattle.algebra.proofs.Unions.{vars-append}
-use Rattle.terms.specs.Terms.{termOf, decode}
-use Rattle.terms.specs.Order.{none}
+use Rattle.terms.specs.Terms.{termOf, none, decode}
 use Rattle.terms.proofs.Decode.{decode-length, decode-at, decode-last}
 
 -- ---- one set and one coefficient

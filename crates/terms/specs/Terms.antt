@@ -12,6 +12,10 @@ use Rattle.words.specs.Words.{number}
 unfoldable pub termOf : List ℕ → Term
 termOf l = record { set = number (take setWords l); coef = getD l setWords 0 }
 
+-- what stands past the end of a run
+abbrev pub none : Term
+none = record { set = 0; coef = 0 }
+
 -- the first n terms of some words
 unfoldable pub decode : ℕ → List ℕ → Poly
 decode zero l = []

@@ -1,0 +1,11 @@
+pub mod Reordered
+pub mod Heaps
+pub mod Sorting
+pub mod Draining
+pub mod Sliding
+pub mod Settling
+pub mod Merging
+pub mod Places
+pub mod Passes
+pub mod Gathering
+pub mod Decided

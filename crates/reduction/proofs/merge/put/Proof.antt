@@ -1,0 +1,59 @@
+-- `reduction::merge::put` meets its contract: the term is left away where its coefficient is zero, and else written. Assumes nothing.
+use native.Mathlib.Omega.{arith}
+use borrow.Author.Needs.{needs}
+use Rattle.reduction.proofs.Merging.{put-zero, put-one}
+use Rattle.reduction.proofs.merge.put.Statement.{statement}
+use Rattle.reduction.proofs.merge.put.Tie as tie
+
+array-read-cut : tie.Need-array-read-cut
+array-read-cut c = search needs
+
+cut-requires : tie.Need-cut-requires
+cut-requires c κs = search needs
+
+returns : tie.Need-returns
+returns c =
+    let a = c .before .before .before .args in
+    put-zero (a .k) (a .n) (a .s .now) (a .t3) _ (c .before .cut .ensures) (c .if1 .taken)
+
+set-of-requires : tie.Need-set-of-requires
+set-of-requires c κs = search needs
+
+term-of-requires : tie.Need-term-of-requires
+term-of-requires c κs = search needs
+
+mul-write-term : tie.Need-mul-write-term
+mul-write-term c = search needs
+
+write-term-requires : tie.Need-write-term-requires
+write-term-requires c κs = search needs
+
+add-result : tie.Need-add-result
+add-result c = search needs
+
+same-length : tie.Need-same-length
+same-length c = search needs
+
+returns-2 : tie.Need-returns-2
+returns-2 c =
+    let w = c .before .before in
+    let m = w .before .before in
+    let d = m .before in
+    let e = d .before in
+    let a = e .before .before .before .args in
+    put-one (a .k) (a .n) (a .s .now) (a .t3) _ (e .before .cut .ensures) _ _ _ (e .if1 .left) (omega arith) (d .set-of .ensures) (search needs) (m .term-of .ensures) (w .write-term .ensures)
+
+pub put-spec : {M : Type 1} → statement M
+put-spec =
+    tie.close
+    (tie.spec
+    array-read-cut
+    cut-requires
+    returns
+    set-of-requires
+    term-of-requires
+    mul-write-term
+    write-term-requires
+    add-result
+    same-length
+    returns-2)
