@@ -4,8 +4,6 @@ ghost use Prim.Native.Nat.{_*_, _≤_};
 ghost use lib.ListN.{length};
 ghost use Rattle.limits.specs.Limits.{termWords, lineProducts};
 
-const MOST: usize = 1024;
-
 // The number at the front of b, or the most that is taken.
 fn number_in(b: &[u8]) -> usize
     ensures { λ r. ⌜ r ≤ lineProducts ⌝ }
@@ -40,8 +38,8 @@ fn digit(x: u8) -> usize
 fn capped(n: usize) -> usize
     ensures { λ r. ⌜ r ≤ lineProducts ⌝ }
 {
-    if MOST < n {
-        return MOST;
+    if limits::LINE_PRODUCTS < n {
+        return limits::LINE_PRODUCTS;
     }
     n
 }
@@ -95,7 +93,7 @@ fn main() {
     let size = io::count(got, &text);
     let n = number_in(&text[..size]);
     let order = order_in(&text[..size]);
-    let mut run = [0u64; MOST * limits::TERM_WORDS];
+    let mut run = [0u64; limits::LINE_PRODUCTS * limits::TERM_WORDS];
     fill(&mut run, order, n);
     let left = reduction::reduce(&mut run, n, 64);
     io::print_decimal(1, left as u64);

@@ -1,6 +1,7 @@
 pub mod Reordered
+pub mod Arranged
 pub mod Heaps
-pub mod Sorting
+pub mod Sifting
 pub mod Draining
 pub mod Sliding
 pub mod Settling

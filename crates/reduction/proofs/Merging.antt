@@ -8,16 +8,16 @@ use lib.Dec.{eqb}
 use lib.ListN.{length, getD, take, drop}
 use lib.Seq.{paste}
 use borrow.Author.Tests.{eq-eqb, ne-eqb}
-use Rattle.words.specs.Parts.{part, Within}
-use Rattle.words.proofs.Parts.{within-refl, within-trans, within-wider, above-kept}
 use Rattle.limits.specs.Limits.{setWords, termWords}
 use Rattle.algebra.specs.Polynomial.{Term, Poly, equal, put, reduce}
+use Rattle.words.specs.Parts.{part, Within}
+use Rattle.words.proofs.Parts.{within-refl, within-trans, within-wider, above-kept}
 use Rattle.terms.specs.Terms.{termOf, none, decode, Leaves}
+use Rattle.terms.proofs.Decode.{decode-length, decode-at, decode-take, decode-last, decode-above, behind-within, decode-behind}
+use Rattle.terms.proofs.Rounding.{put-word}
 use Rattle.reduction.specs.Order.{Falls}
 use Rattle.reduction.specs.Steps.{Sorted, settle}
-use Rattle.terms.proofs.Decode.{decode-length, decode-at, decode-take, decode-last, decode-above, behind-within, decode-behind}
 use Rattle.reduction.proofs.Settling.{reduce-order, reduce-more, settle-last}
-use Rattle.terms.proofs.Rounding.{put-word}
 
 -- ---- a term put behind n terms, or left away
 module _ (k n : ℕ) (s t : List ℕ) (c : ℕ) (ec : c ≡ getD t setWords 0 % 2 ^ k) where

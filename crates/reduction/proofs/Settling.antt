@@ -7,12 +7,12 @@ use lib.Dec.{eqb, ltb}
 use lib.ListN.{length, getD, take}
 use lib.Seq.{getD-take, length-take-le, take-suc}
 use borrow.Author.Tests.{ne-eqb, le-ltb}
+use Rattle.ground.specs.Lists.{total}
 use Rattle.ground.proofs.Tests.{by-cond}
 use Rattle.ground.proofs.Congruence.{same-eq}
 use Rattle.algebra.specs.Polynomial.{Term, Poly, put, insert, reduce, Reduced}
 use Rattle.algebra.proofs.Reduced.{reduced-reduce}
 use Rattle.algebra.proofs.Sums.{bound, below-bound, reduce-sums}
-use Rattle.ground.specs.Lists.{total}
 use Rattle.terms.specs.Terms.{none}
 use Rattle.reduction.specs.Order.{Reordered, setAt, Falls}
 use Rattle.reduction.specs.Steps.{settle}

@@ -82,4 +82,4 @@ module _ (k n : ℕ) (s x r : List ℕ) (a : Rows n n s x) where
   unfolding product
   square-equal b h e =
       let p : Poly = decode n (drop statedAt s) in
-      e ∙ ap₂ equal (decode-above n statedAt 0 statedAt s x (a .within) (omega arith)) (ap (reduce k) (a .terms) ∙ reduce-rounded k h [] (products p p)) ∙ equal-swap p (product k p p)
+      e ∙ ap₂ equal (decode-above n statedAt 0 statedAt s x (a .within) (omega arith)) (ap (reduce k) (a .terms) ∙ reduce-rounded k h (products p p)) ∙ equal-swap p (product k p p)

@@ -1,7 +1,7 @@
 -- What the checks of an ext line and of a lin line say. Assumes nothing.
 use mathlib.Core.Path.{_≡_, refl, sym, ap, ap₂, subst, _∙_}
 use mathlib.Core.Bool.{Bool, true, false, not, cond}
-use mathlib.Core.List.{List, [], map}
+use mathlib.Core.List.{List, map}
 use Prim.Native.Nat.{ℕ, _*_, _^_, _≤_, _<_}
 use native.Mathlib.Omega.{arith}
 use lib.Bits.{bitOr}
@@ -127,7 +127,7 @@ module _ {k : ℕ} {store : Store} {p : Poly} {qs : List Pair} {n : ℕ} (seen :
     counted-sum y = not-refused present (ltb lineProducts (productsOf k (find store) qs)) (cond (not y) MISMATCH 0) (sym o ∙ a .verdict)
 
     same-sum : b ≡ sum
-    same-sum = d ∙ ap₂ equal (a .stated n (omega arith) ∙ stated) (ap (reduce k) (a .run o) ∙ reduce-rounded k kk [] (combination k (find store) qs))
+    same-sum = d ∙ ap₂ equal (a .stated n (omega arith) ∙ stated) (ap (reduce k) (a .run o) ∙ reduce-rounded k kk (combination k (find store) qs))
 
     kept : decode n (drop statedAt r) ≡ p
     kept = decode-above n statedAt 0 statedAt x r w (omega arith) ∙ a .stated n (omega arith) ∙ stated

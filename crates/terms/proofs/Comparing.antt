@@ -1,5 +1,5 @@
 -- What the order of two sets says of the tests on them. Assumes nothing.
-use mathlib.Core.Path.{_≡_, sym, subst, _∙_}
+use mathlib.Core.Path.{_≡_, sym, ap₂, _∙_}
 use mathlib.Core.Bool.{Bool, true, false}
 use Prim.Native.Nat.{ℕ}
 use native.Mathlib.Omega.{arith}
@@ -33,7 +33,7 @@ equal-of Greater m n h = sym (ne-eqb m n (λ e. omega arith))
 -- o is the order of x and y, which are m and n, and o is p
 module _ (o p : Order) (x y m n : ℕ) (e : o ≡ orderOf x y) (ex : x ≡ m) (ey : y ≡ n) (op : o ≡ p) where
   ordered : Ordered p m n
-  ordered = order-says p m n (sym op ∙ e ∙ subst (λ (z : ℕ). orderOf x y ≡ orderOf z n) ex (subst (λ (z : ℕ). orderOf x y ≡ orderOf x z) ey (λ i. orderOf x y)))
+  ordered = order-says p m n (sym op ∙ e ∙ ap₂ orderOf ex ey)
 
   pub less-told : isLess p ≡ ltb m n
   less-told = less-of p m n ordered

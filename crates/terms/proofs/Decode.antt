@@ -6,11 +6,11 @@ use native.Mathlib.Omega.{arith}
 use native.Mathlib.Nat.{suc-add, not-suc-le-zero, le-of-suc-le-suc}
 use lib.ListN.{length, take, drop, getD, set}
 use lib.Seq.{take-take, take-at, drop-at, getD-take, getD-drop, drop-drop, take-all, paste, take-paste, drop-paste, set-split}
-use Rattle.words.specs.Parts.{part, Within}
-use Rattle.words.proofs.Parts.{take-fewer, drop-more, drop-take, below-kept, part-paste, paste-within}
 use Rattle.limits.specs.Limits.{setWords, termWords}
 use Rattle.algebra.specs.Polynomial.{Term, Poly}
+use Rattle.words.specs.Parts.{part, Within}
 use Rattle.words.specs.Words.{number}
+use Rattle.words.proofs.Parts.{take-fewer, drop-more, drop-take, below-kept, part-paste, paste-within}
 use Rattle.terms.specs.Terms.{termOf, none, decode}
 
 pub decode-length : (n : ℕ) (s : List ℕ) → length (decode n s) ≡ n
@@ -59,7 +59,7 @@ decode-take n i s h =
     let e : i + (n - i) ≡ n = omega arith in
     rw (← e, decode-add i (n - i) s) (take-at (decode i s) (decode (n - i) (drop (i * termWords) s)) i (decode-length i s))
 
-pub decode-drop : (n i : ℕ) (s : List ℕ) → i ≤ n → drop i (decode n s) ≡ decode (n - i) (drop (i * termWords) s)
+decode-drop : (n i : ℕ) (s : List ℕ) → i ≤ n → drop i (decode n s) ≡ decode (n - i) (drop (i * termWords) s)
 decode-drop n i s h =
     let e : i + (n - i) ≡ n = omega arith in
     ap (λ (m : ℕ). drop i (decode m s)) (sym e) ∙ rw (decode-add i (n - i) s) (drop-at (decode i s) (decode (n - i) (drop (i * termWords) s)) i (decode-length i s))
@@ -86,7 +86,7 @@ pub decode-above : (n b a e : ℕ) (s r : List ℕ) → Within a e s r → e ≤
 decode-above n b a e s r w h = ap (decode n) (drop-more e b s r h (w .after))
 
 -- the i-th term, those before it and those after
-pub decode-split : (n i : ℕ) (s : List ℕ) → i < n → decode n s ≡ decode i s ++ (termOf (drop (i * termWords) s) ∷ decode (n - suc i) (drop (suc i * termWords) s))
+decode-split : (n i : ℕ) (s : List ℕ) → i < n → decode n s ≡ decode i s ++ (termOf (drop (i * termWords) s) ∷ decode (n - suc i) (drop (suc i * termWords) s))
 unfolding decode
 decode-split n i s h =
     let e : n ≡ i + suc (n - suc i) = omega arith in

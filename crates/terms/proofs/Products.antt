@@ -6,10 +6,10 @@ use native.Mathlib.Omega.{arith}
 use lib.Bits.{bitOr}
 use lib.ListN.{length, getD, take, drop}
 use lib.Seq.{drop-drop, paste}
-use Rattle.words.specs.Parts.{part}
-use Rattle.words.proofs.Parts.{within-refl, within-trans, within-wider, above-kept}
 use Rattle.limits.specs.Limits.{setWords, termWords}
 use Rattle.algebra.specs.Polynomial.{Term, Poly, times}
+use Rattle.words.specs.Parts.{part}
+use Rattle.words.proofs.Parts.{within-refl, within-trans, within-wider, above-kept}
 use Rattle.terms.specs.Terms.{termOf, decode, rounded, productOf, Appended}
 use Rattle.terms.proofs.Decode.{decode-last, behind-within, decode-behind}
 

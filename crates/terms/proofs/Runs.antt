@@ -10,12 +10,12 @@ use lib.Dec.{eqb}
 use lib.ListN.{length, getD, drop, drop-of-length-le}
 use lib.Seq.{drop-cons}
 use borrow.Author.Tests.{eqb-true, eq-eqb}
-use Rattle.words.specs.Parts.{part}
 use Rattle.ground.proofs.Tests.{bool-ext}
-use Rattle.words.proofs.Parts.{part-rest}
 use Rattle.limits.specs.Limits.{setWords, termWords}
 use Rattle.algebra.specs.Polynomial.{Poly, equal, vars}
 use Rattle.algebra.proofs.Unions.{vars-append}
+use Rattle.words.specs.Parts.{part}
+use Rattle.words.proofs.Parts.{part-rest}
 use Rattle.terms.specs.Terms.{termOf, none, decode}
 use Rattle.terms.proofs.Decode.{decode-length, decode-at, decode-last}
 
@@ -44,10 +44,6 @@ unequal (s ∷ p) (t ∷ q) h = last (eqb (s .set) (t .set)) (eqb (s .coef) (t .
 pub run-longer : (m n : ℕ) (a b : List ℕ) → (m ≡ n → ⊥) → false ≡ equal (decode m a) (decode n b)
 run-longer m n a b h = unequal (decode m a) (decode n b) (λ e. h (sym (decode-length m a) ∙ e ∙ decode-length n b))
 
-and-assoc : (x y z : Bool) → (x && y && z) ≡ ((x && y) && z)
-and-assoc true y z = refl
-and-assoc false y z = refl
-
 -- both runs from their i-th terms on, t and u, where o tells whether these are the same
 module _ (n i : ℕ) (a b : List ℕ) (h : i < n) (t u : List ℕ) (o : Bool) (et : t ≡ part (i * termWords) termWords a) (eu : u ≡ part (i * termWords) termWords b)
     (eo : o ≡ (eqb (termOf t .set) (termOf u .set) && eqb (termOf t .coef) (termOf u .coef))) where
@@ -59,7 +55,6 @@ module _ (n i : ℕ) (a b : List ℕ) (h : i < n) (t u : List ℕ) (o : Bool) (e
   step : equal (drop i (decode n a)) (drop i (decode n b)) ≡ (o && equal (drop (i + 1) (decode n a)) (drop (i + 1) (decode n b)))
   unfolding equal
   step = ap₂ equal (from a t et) (from b u eu)
-      ∙ and-assoc (eqb (termOf t .set) (termOf u .set)) (eqb (termOf t .coef) (termOf u .coef)) (equal (drop (i + 1) (decode n a)) (drop (i + 1) (decode n b)))
       ∙ ap (λ (x : Bool). x && equal (drop (i + 1) (decode n a)) (drop (i + 1) (decode n b))) (sym eo)
 
   module _ (m : ℕ) (e : m ≡ n) (inv : equal (decode m a) (decode n b) ≡ equal (drop i (decode m a)) (drop i (decode n b))) where

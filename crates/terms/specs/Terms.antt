@@ -4,11 +4,12 @@ use mathlib.Core.List.{List, [], _∷_, _++_}
 use Prim.Native.Nat.{ℕ, zero, suc, _+_, _*_, _%_, _^_, _≤_}
 use lib.Bits.{bitOr}
 use lib.ListN.{take, drop, getD}
-use Rattle.words.specs.Parts.{Within}
 use Rattle.limits.specs.Limits.{setWords, termWords}
 use Rattle.algebra.specs.Polynomial.{Term, Poly}
+use Rattle.words.specs.Parts.{Within}
 use Rattle.words.specs.Words.{number}
 
+-- the term in the first words of l
 unfoldable pub termOf : List ℕ → Term
 termOf l = record { set = number (take setWords l); coef = getD l setWords 0 }
 

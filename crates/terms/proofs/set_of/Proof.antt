@@ -6,8 +6,8 @@ use borrow.Author.Needs.{needs}
 use lib.ListN.{length, replicate, length-set}
 use lib.Seq.{paste}
 use Rattle.limits.specs.Limits.{setWords, termWords}
-use Rattle.words.proofs.Parts.{fill-more, fill-all}
 use Rattle.words.specs.Words.{number}
+use Rattle.words.proofs.Parts.{fill-more, fill-all}
 use Rattle.terms.specs.Terms.{termOf}
 use Rattle.terms.proofs.set_of.Statement.{statement}
 use Rattle.terms.proofs.set_of.Tie as tie
