@@ -6,13 +6,14 @@ use Prim.Native.Nat.{ℕ, _-_, _^_, _≤_, _<_}
 use native.Mathlib.Omega.{arith}
 use lib.Dec.{ltb}
 use lib.ListN.{length, drop, length-drop}
-use lib.Seq.{length-take-le}
 use borrow.Author.Tests.{ltb-true, ltb-false}
 use Rattle.ground.specs.Lists.{any}
 use Rattle.limits.specs.Verdicts.{ACCEPTED, NUMBER, TERMS}
+use Rattle.words.specs.Parts.{part}
+use Rattle.words.proofs.Parts.{length-part}
 use Rattle.paper.specs.Grammar.{Bytes, Line as TextLine, Reader, polynomial}
 use Rattle.paper.specs.Statement.{Statement, fields, numbersInRange, tooManyTerms}
-use Rattle.reader.specs.Places.{part, Got, Fails}
+use Rattle.reader.specs.Places.{Got, Fails}
 use Rattle.reader.specs.Search.{LineEnd, FieldEnd}
 use Rattle.reader.specs.Numbers.{TooLarge, DecimalIs}
 use Rattle.reader.specs.Fields.{Scans, Said}
@@ -84,9 +85,6 @@ pub one-field-end : (s : Bytes) (at r q : ℕ) → FieldEnd s at r → FieldEnd 
 one-field-end s at r q x y = same-end polynomial s at (x .taken) (y .taken) .1
 
 -- ---- `line_end`
-length-part : (s : Bytes) (at e : ℕ) → e ≤ length s → length (part s at e) ≡ e - at
-length-part s at e h = length-take-le (e - at) (drop at s) (omega (arith, length-drop at s))
-
 -- the first of some lines: its length, and whether it ended
 abbrev long : List TextLine → ℕ
 long ls = elim ls [ [] ↦ 0 | l ∷ r ↦ length (l .content) ]
@@ -106,9 +104,9 @@ module _ (text : Bytes) (at : ℕ) where
     where
       go : (x y : Bool) → ltb r (length text) ≡ x → ltb q (length text) ≡ y → r ≡ q
       go true true h k =
-          let e : length (part text at r) ≡ length (part text at q)
+          let e : length (part at (r - at) text) ≡ length (part at (q - at) text)
           = ap long (sym (a .ended (ltb-true r (length text) h)) ∙ b .ended (ltb-true q (length text) k)) in
-          omega (arith, e, length-part text at r (a .inside), length-part text at q (b .inside), a .onward, b .onward)
+          omega (arith, length-part at (r - at) text (omega arith), length-part at (q - at) text (omega arith))
       go true false h k = absurd (unlike a b (ltb-true r (length text) h) (ltb-false q (length text) k))
       go false true h k = absurd (unlike b a (ltb-true q (length text) k) (ltb-false r (length text) h))
       go false false h k = omega (arith, ltb-false r (length text) h, ltb-false q (length text) k, a .inside, b .inside)

@@ -9,15 +9,16 @@ use native.Mathlib.Numerals.{add-one}
 use native.Mathlib.Omega.{arith}
 use lib.Dec.{eqb}
 use lib.ListN.{length, take, drop, getD, length-drop, take-append-drop}
-use lib.Seq.{drop-cons, drop-drop, take-all, getD-take, getD-drop, length-take-le}
+use lib.Seq.{drop-cons, drop-drop, take-all, getD-take, getD-drop}
 use borrow.Author.Count.{below-more}
 use borrow.Author.Tests.{eqb-false, ne-eqb, not-true}
 use Rattle.ground.specs.Lists.{every}
 use Rattle.ground.proofs.Tests.{and-left, and-right}
 use Rattle.ground.proofs.Eight.{below-eight}
+use Rattle.words.specs.Parts.{part}
+use Rattle.words.proofs.Parts.{length-part}
 use Rattle.paper.specs.Grammar.{Bytes, onFirst, lines, got}
 use Rattle.paper.proofs.Reading.{inField, takes-polynomial}
-use Rattle.reader.specs.Places.{part}
 use Rattle.reader.specs.Search.{amongEight, Without, FirstAt, LineEnd, EndsField, WholeField, FieldEnd}
 
 -- ---- b is none of the bytes from at up to i
@@ -33,21 +34,17 @@ module _ (b : ℕ) (s : Bytes) (at : ℕ) where
 
 -- ---- parts
 module _ (s : Bytes) (at : ℕ) where
-  pub length-part : (e : ℕ) → e ≤ length s → length (part s at e) ≡ e - at
-  length-part e h = length-take-le (e - at) (drop at s) (omega (arith, length-drop at s))
-
-  part-all : (i : ℕ) → length s ≤ i → part s at i ≡ drop at s
-  part-all i h = take-all (i - at) (drop at s) (omega (arith, length-drop at s))
-
-  pub part-rest : (i : ℕ) → at ≤ i → part s at i ++ drop i s ≡ drop at s
-  part-rest i h =
+  part-then : (i : ℕ) → at ≤ i → part at (i - at) s ++ drop i s ≡ drop at s
+  part-then i h =
       let k : at + (i - at) ≡ i = omega arith in
       let e : drop (i - at) (drop at s) ≡ drop i s = rw (drop-drop (i - at) at s, k) in
       rw (← e) (take-append-drop (i - at) (drop at s))
 
-  part-without : (b i : ℕ) → Without b s at i → (k : ℕ) → k < length (part s at i) → getD (part s at i) k 0 ≡ b → ⊥
+  part-without : (b i : ℕ) → Without b s at i → (k : ℕ) → k < length (part at (i - at) s) → getD (part at (i - at) s) k 0 ≡ b → ⊥
   part-without b i w k h e =
-      let l : k < i - at = omega (arith, length-part i (w .inside)) in
+      let o = w .onward in
+      let n = w .inside in
+      let l : k < i - at = omega (arith, length-part at (i - at) s (omega arith)) in
       w .none (at + k) (omega arith) (omega arith) (sym (getD-take (i - at) (drop at s) k 0 l ∙ getD-drop at s k 0) ∙ e)
 
 -- ---- lines
@@ -69,11 +66,11 @@ line-end text at r f =
       inside = f .without .inside;
       ended = λ h.
           let d : drop r text ≡ 10 ∷ drop (r + 1) text = drop-cons text r 0 h ∙ ap₂ _∷_ (f .found h) (ap (λ (n : ℕ). drop n text) (sym (add-one r))) in
-          ap lines (sym (part-rest text at r (f .without .onward)) ∙ ap (λ (l : Bytes). part text at r ++ l) d)
-          ∙ lines-ended (part text at r) (drop (r + 1) text) (part-without text at 10 r (f .without));
+          ap lines (sym (part-then text at r (f .without .onward)) ∙ ap (λ (l : Bytes). part at (r - at) text ++ l) d)
+          ∙ lines-ended (part at (r - at) text) (drop (r + 1) text) (part-without text at 10 r (f .without));
       last = λ h l.
-          let p = part-all text at r l in
-          ap lines (sym p) ∙ lines-last (part text at r) (omega (arith, ap length p, length-drop at text)) (part-without text at 10 r (f .without));
+          let p : part at (r - at) text ≡ drop at text = take-all (r - at) (drop at text) (omega (arith, length-drop at text)) in
+          ap lines (sym p) ∙ lines-last (part at (r - at) text) (omega (arith, ap length p, length-drop at text)) (part-without text at 10 r (f .without));
     }
 
 -- ---- fields

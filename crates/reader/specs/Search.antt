@@ -2,13 +2,14 @@
 use mathlib.Core.Path.{_≡_}
 use mathlib.Core.Bool.{Bool, true, false, _||_}
 use mathlib.Core.List.{[], _∷_}
-use Prim.Native.Nat.{ℕ, _+_, _≤_, _<_}
+use Prim.Native.Nat.{ℕ, _+_, _-_, _≤_, _<_}
 use Prim.Native.Char.{code}
 use lib.Dec.{eqb}
 use lib.ListN.{length, drop, getD}
+use Rattle.words.specs.Parts.{part}
 use Rattle.paper.specs.Grammar.{Bytes, lines, got, polynomial}
 use Rattle.paper.specs.Statement.{Written}
-use Rattle.reader.specs.Places.{part, Got}
+use Rattle.reader.specs.Places.{Got}
 
 -- whether b is one of the eight bytes from i on
 abbrev pub amongEight : Bytes → ℕ → ℕ → Bool
@@ -31,8 +32,8 @@ pub record FirstAt (b : ℕ) (s : Bytes) (at r : ℕ) : Type 0 where
 pub record LineEnd (text : Bytes) (at r : ℕ) : Type 0 where
   pub onward : at ≤ r
   pub inside : r ≤ length text
-  pub ended : r < length text → lines (drop at text) ≡ record { content = part text at r; ended = true } ∷ lines (drop (r + 1) text)
-  pub last : at < length text → length text ≤ r → lines (drop at text) ≡ record { content = part text at r; ended = false } ∷ []
+  pub ended : r < length text → lines (drop at text) ≡ record { content = part at (r - at) text; ended = true } ∷ lines (drop (r + 1) text)
+  pub last : at < length text → length text ≤ r → lines (drop at text) ≡ record { content = part at (r - at) text; ended = false } ∷ []
 
 -- nothing, or a tab first
 abbrev pub EndsField : Bytes → Type 0
