@@ -1,6 +1,6 @@
--- Fields behind tabs, pairs, keywords and whole lines as they are scanned. Assumes nothing.
-use mathlib.Core.Path.{_≡_, refl, ap, ap₂, _∙_}
-use mathlib.Core.Bool.{Bool, true, false, _&&_, _||_, not}
+-- Fields behind tabs, pairs and keywords as they are scanned, and the tests of a statement from those of its parts. Assumes nothing.
+use mathlib.Core.Path.{_≡_, refl, sym, ap, ap₂, _∙_}
+use mathlib.Core.Bool.{Bool, true, false, _&&_, _||_, not, and-true, and-assoc, and-comm}
 use mathlib.Core.List.{List, [], _∷_, map}
 use Prim.Native.Nat.{ℕ, _+_, _≤_, _<_}
 use native.Mathlib.Numerals.{add-one}
@@ -126,69 +126,53 @@ unfolding literal
 literal-all s w i h = rw (drop-of-length-le w h)
 
 -- ---- tests of a statement
-and-true : (b : Bool) → b ≡ (b && true)
-and-true true = refl
-and-true false = refl
-
 not-or : (a b : Bool) → (not a && not b) ≡ not (a || b)
 not-or true b = refl
 not-or false b = refl
 
-crossed : (a b x y : Bool) → (a && (b && (x && y))) ≡ ((a && x) && (b && y))
+crossed : (a b x y : Bool) → ((a && b) && (x && y)) ≡ ((a && x) && (b && y))
 crossed true true x y = refl
 crossed true false true y = refl
 crossed true false false y = refl
 crossed false b x y = refl
 
-swapped : (a b c : Bool) → ((a && b) && c) ≡ ((b && (a && true)) && (c && true))
-swapped true true c = and-true c
-swapped true false c = refl
-swapped false true c = refl
-swapped false false c = refl
-
 pub ranged-ring : (k : ℕ) → within 1 greatestRing k ≡ numbersInRange (ring k)
 unfolding numbersInRange isRing newIndex namedIndices fields every
-ranged-ring k = and-true (within 1 greatestRing k) ∙ and-true (within 1 greatestRing k && true) ∙ and-true ((within 1 greatestRing k && true) && true)
+ranged-ring k = simp and-true
 
 pub ranged-input : (i : ℕ) (p : Written) → (isIndex i && inRange p) ≡ numbersInRange (input i p)
 unfolding numbersInRange newIndex namedIndices fields every
-ranged-input i p = ap₂ _&&_ (and-true (isIndex i)) (and-true (inRange p))
+ranged-input i p = simp and-true
 
 pub ranged-goal : (p : Written) → inRange p ≡ numbersInRange (goal p)
 unfolding numbersInRange newIndex namedIndices fields every
-ranged-goal p = and-true (inRange p)
+ranged-goal p = simp and-true
 
 ranged-pairs : (qs : List Pair) → every pairRanged qs ≡ (every isIndex (map (λ q. q .index) qs) && every inRange (map (λ q. q .factor) qs))
 unfolding every pairRanged
 ranged-pairs [] = refl
 ranged-pairs (q ∷ qs) =
     ap (λ (b : Bool). (isIndex (q .index) && inRange (q .factor)) && b) (ranged-pairs qs)
-    ∙ go (isIndex (q .index)) (inRange (q .factor)) (every isIndex (map (λ q. q .index) qs)) (every inRange (map (λ q. q .factor) qs))
-  where
-    go : (a b x y : Bool) → ((a && b) && (x && y)) ≡ ((a && x) && (b && y))
-    go true true x y = refl
-    go true false true y = refl
-    go true false false y = refl
-    go false b x y = refl
+    ∙ crossed (isIndex (q .index)) (inRange (q .factor)) (every isIndex (map (λ q. q .index) qs)) (every inRange (map (λ q. q .factor) qs))
 
 pub ranged-lin : (i : ℕ) (p : Written) (qs : List Pair) → (isIndex i && (inRange p && every pairRanged qs)) ≡ numbersInRange (lin i p qs)
 unfolding numbersInRange newIndex namedIndices fields every
 ranged-lin i p qs =
-    ap (λ (b : Bool). isIndex i && (inRange p && b)) (ranged-pairs qs)
+    sym (and-assoc (isIndex i) (inRange p) (every pairRanged qs)) ∙ ap (λ (b : Bool). (isIndex i && inRange p) && b) (ranged-pairs qs)
     ∙ crossed (isIndex i) (inRange p) (every isIndex (map (λ q. q .index) qs)) (every inRange (map (λ q. q .factor) qs))
 
 pub ranged-del : (i : ℕ) → isIndex i ≡ numbersInRange (del i)
 unfolding numbersInRange newIndex namedIndices fields every
-ranged-del i = and-true (isIndex i) ∙ and-true (isIndex i && true)
+ranged-del i = simp and-true
 
 pub ranged-ext : (i v : ℕ) (p : Written) → ((isIndex i && isVariable v) && inRange p) ≡ numbersInRange (ext i v p)
 unfolding numbersInRange newIndex namedIndices fields every
-ranged-ext i v p = swapped (isIndex i) (isVariable v) (inRange p)
+ranged-ext i v p = simp and-true (ap (λ (b : Bool). b && inRange p) (and-comm (isIndex i) (isVariable v)))
 
 -- of a statement with one polynomial
 pub few-one : (p : Written) → fewTerms p ≡ not (any tooManyTerms (p ∷ []))
 unfolding fewTerms any
-few-one p = and-true (fewTerms p) ∙ not-or (tooManyTerms p) false
+few-one p = sym (and-true (fewTerms p)) ∙ not-or (tooManyTerms p) false
 
 few-pairs : (qs : List Pair) → every pairFew qs ≡ not (any tooManyTerms (map (λ q. q .factor) qs))
 unfolding every any pairFew fewTerms

@@ -1,6 +1,6 @@
 -- Scans of readers in a row, and of as many items as follow. Assumes nothing.
 use mathlib.Core.Path.{_≡_, refl, sym, ap, ap₂, _∙_}
-use mathlib.Core.Bool.{Bool, true, false, _&&_}
+use mathlib.Core.Bool.{Bool, true, _&&_, and-true}
 use mathlib.Core.List.{List, [], _∷_, _++_, append-assoc, append-nil}
 use Prim.Native.Nat.{ℕ, _+_, _≤_, _<_}
 use native.Mathlib.Omega.{arith}
@@ -126,8 +126,4 @@ every-none f = refl
 -- a test of every item, one more at the end
 pub every-more : {A : Type 0} (f : A → Bool) (xs : List A) (x : A) (a b : Bool) → a ≡ every f xs → b ≡ f x → (a && b) ≡ every f (xs ++ (x ∷ []))
 unfolding every
-every-more f xs x a b p q = rw (every-append f xs (x ∷ [])) (ap₂ _&&_ p (q ∙ go (f x)))
-  where
-    go : (b : Bool) → b ≡ (b && true)
-    go true = refl
-    go false = refl
+every-more f xs x a b p q = rw (every-append f xs (x ∷ [])) (ap₂ _&&_ p (q ∙ sym (and-true (f x))))
