@@ -7,11 +7,12 @@ use mathlib.Core.List.{List, [], _∷_, _++_}
 use Prim.Native.Nat.{ℕ, _+_, _-_, _*_, _%_, _^_, _≤_, _<_}
 use native.Mathlib.Omega.{arith}
 use lib.Bits.{bitOr, or-comm}
-use lib.ListN.{length, drop, getD, length-append}
+use lib.ListN.{length, drop, getD, replicate, length-append}
 use lib.Dec.{ltb}
 use borrow.Author.Tests.{ltb-true, ltb-false, lt-ltb}
 use Rattle.ground.specs.Lists.{every}
 use Rattle.ground.proofs.Tests.{split, and-left, and-right}
+use Rattle.limits.specs.Limits.{variables, setWords}
 use Rattle.algebra.proofs.Unions.{or-assoc}
 use Rattle.words.specs.Words.{number}
 use Rattle.paper.specs.Grammar.{Bytes, Read, got, stuck, Reader, next, each, digits, decimal}
@@ -40,11 +41,11 @@ is-word n e = ltb-true n (2 ^ 64) e
 
 pub variable-word : (v : ℕ) → isVariable v ≡ true → isWord v ≡ true
 unfolding isVariable isWord
-variable-word v e = let h : v < 256 = ltb-true v 256 e in lt-ltb v (2 ^ 64) (omega arith)
+variable-word v e = let h = ltb-true v variables e in lt-ltb v (2 ^ 64) (omega arith)
 
-pub is-variable : (v : ℕ) → isVariable v ≡ true → v < 256
+pub is-variable : (v : ℕ) → isVariable v ≡ true → v < variables
 unfolding isVariable
-is-variable v e = ltb-true v 256 e
+is-variable v e = ltb-true v variables e
 
 pub good-weaken : {A : Type 0} {read : Reader A} {f g : A → Bool} {s : Bytes} {at : ℕ} → ((x : A) → f x ≡ true → g x ≡ true) → Good read f s at → Good read g s at
 good-weaken h p = record { value = p .value; rest = p .rest; reads = p .reads; passes = h (p .value) (p .passes); inside = p .inside }
@@ -109,7 +110,7 @@ pub signed-positive : (b : Bool) (c : ℕ) → b ≡ false → c ≡ signedWord 
 unfolding signedWord
 signed-positive b c e = sym (cond-no b ((2 ^ 64 - c) % 2 ^ 64) c e)
 
-pub no-variables : number (0 ∷ 0 ∷ 0 ∷ 0 ∷ []) ≡ setOf []
+pub no-variables : number (replicate setWords 0) ≡ setOf []
 unfolding number setOf
 no-variables = refl
 

@@ -2,7 +2,7 @@
 use mathlib.Core.Path.{_≡_, refl, sym, ap, ap₂, _∙_, subst}
 use mathlib.Core.Bool.{Bool, true, false, _&&_, not, cond}
 use mathlib.Core.List.{List, [], _∷_}
-use Prim.Native.Nat.{ℕ, suc, _<_}
+use Prim.Native.Nat.{ℕ, suc, _-_, _<_}
 use native.Mathlib.Omega.{arith}
 use lib.Dec.{ltb}
 use lib.ListN.{length, drop, getD, drop-of-length-le}
@@ -10,7 +10,7 @@ use lib.Seq.{drop-cons, drop-length}
 use borrow.Author.Tests.{ltb-true, ltb-false, ne-eqb}
 use Rattle.ground.specs.Lists.{every, any}
 use Rattle.ground.proofs.Tests.{by-cond}
-use Rattle.limits.specs.Limits.{greatestRing, greatestIndex}
+use Rattle.limits.specs.Limits.{variables, greatestRing, greatestIndex}
 use Rattle.limits.specs.Verdicts.{ACCEPTED, NUMBER, TERMS}
 use Rattle.paper.specs.Grammar.{Bytes, bytes, Read, got, stuck, Reader, next, give, literal, end, tab, number, field, pair, kinds, beginsAlike, oneOf, statement}
 use Rattle.paper.specs.Statement.{Written, Pair, Statement, ring, input, goal, lin, del, ext, fields, within, isIndex, inRange, numbersInRange, tooManyTerms}
@@ -116,7 +116,7 @@ module _ {s : Bytes} where
     pub ext-fails-field : {v j p : ℕ} → Got number s m v j → Fails field s j p → Fails (headed exts) s 0 p
     ext-fails-field v f = indexed-fails-then (bytes "ext") _ g (fails-then number _ v (fails-first field _ f))
 
-  pub ext-scans : {m j e : ℕ} {a b d x y z : Bool} → Scanned (behind (bytes "ext") number) isIndex always s 0 m a x → Scanned number (within 0 255) always s m j b z
+  pub ext-scans : {m j e : ℕ} {a b d x y z : Bool} → Scanned (behind (bytes "ext") number) isIndex always s 0 m a x → Scanned number (within 0 (variables - 1)) always s m j b z
       → Scanned field inRange fewTerms s j e d y → Scans (headed exts) numbersInRange fewInFields s 0 (Field e ((a && b) && d) y)
   unfolding fewInFields fields
   ext-scans i v p =
