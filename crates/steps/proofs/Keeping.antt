@@ -18,8 +18,8 @@ use Rattle.terms.proofs.Decode.{decode-length, decode-paste}
 use Rattle.paper.specs.Rules.{Store, modulo, overfull}
 use Rattle.table.specs.declared.Table.{Table}
 use Rattle.table.specs.Table.{storeOf, Fitting}
-use Rattle.table.specs.Steps.{Pushed}
 use Rattle.table.proofs.Laws.{store-length, store-terms, store-kept}
+use Rattle.table.proofs.Pushing.{Pushed}
 use Rattle.steps.specs.declared.state.State.{State}
 use Rattle.steps.specs.declared.state.Step.{Step}
 use Rattle.steps.specs.declared.state.Gain.{Gain}
