@@ -99,6 +99,14 @@ set-of-more (u ∷ vs) v =
     ∙ ap (λ (x : ℕ). bitOr x (setOf vs)) (or-comm (2 ^ u) (2 ^ v))
     ∙ or-assoc (2 ^ v) (2 ^ u) (setOf vs)
 
+pub no-variables : number (replicate setWords 0) ≡ setOf []
+unfolding number setOf
+no-variables = refl
+
+-- one variable more
+pub one-more : (m x v : ℕ) (vs : List ℕ) → x ≡ bitOr (2 ^ v) m → m ≡ setOf vs → x ≡ setOf (vs ++ (v ∷ []))
+one-more m x v vs e h = e ∙ ap (bitOr (2 ^ v)) h ∙ sym (set-of-more vs v)
+
 -- ---- signs
 pub signed-negative : (b : Bool) (c r : ℕ) → b ≡ true → r ≡ (2 ^ 64 - c) % 2 ^ 64 → r ≡ signedWord b c
 unfolding signedWord
@@ -107,14 +115,6 @@ signed-negative b c r e q = q ∙ sym (cond-yes b ((2 ^ 64 - c) % 2 ^ 64) c e)
 pub signed-positive : (b : Bool) (c : ℕ) → b ≡ false → c ≡ signedWord b c
 unfolding signedWord
 signed-positive b c e = sym (cond-no b ((2 ^ 64 - c) % 2 ^ 64) c e)
-
-pub no-variables : number (replicate setWords 0) ≡ setOf []
-unfolding number setOf
-no-variables = refl
-
--- one variable more
-pub one-more : (m x v : ℕ) (vs : List ℕ) → x ≡ bitOr (2 ^ v) m → m ≡ setOf vs → x ≡ setOf (vs ++ (v ∷ []))
-one-more m x v vs e h = e ∙ ap (bitOr (2 ^ v)) h ∙ sym (set-of-more vs v)
 
 -- ---- digits of a decimal that a word holds: with one more of them a word still holds it
 pub digit-fits : (first : ℕ) (s : Bytes) (at v i : ℕ) → Good (digits first) isWord s at → digits first (drop at s) ≡ digits v (drop i s) → i < length s

@@ -23,10 +23,10 @@ use Rattle.reader.specs.declared.field.FieldScan.the-variants.{Field, St
 use Rattle.reader.specs.declared.line.Kind.{Kind}
 use Rattle.reader.specs.declared.line.LineScan.{LineScan}
 use Rattle.reader.specs.declared.line.LineScan.the-variants.{Line, Stuck}
-use Rattle.reader.proofs.Scans.{got-then, fails-then, fails-first, got-give, next-same}
+use Rattle.reader.proofs.Scans.{got-then, fails-then, fails-first, got-as, fails-as, got-give, next-same}
 use Rattle.reader.proofs.Polynomials.{variable-range}
 use Rattle.reader.proofs.Fields.{FieldsAt, whole, closing}
-use Rattle.reader.proofs.Lines.{scans-as, ranged-ring, ranged-input, ranged-goal, ranged-lin, ranged-del, ranged-ext, few-one, few-lin}
+use Rattle.reader.proofs.Lines.{scans-as, scans-behind, ranged-ring, ranged-input, ranged-goal, ranged-lin, ranged-del, ranged-ext, few-one, few-lin}
 
 -- ---- the kinds
 module _ (w : Bytes) {s : Bytes} where
@@ -35,26 +35,19 @@ module _ (w : Bytes) {s : Bytes} where
 
   pub index-behind : {m : ℕ} {r : FieldScan} → Got (literal w) s 0 tt m → Scans number (within 1 greatestIndex) always s m r → Scans (behind w number) isIndex always s 0 r
   unfolding isIndex
-  index-behind {m} {r} k h =
-      scans-as isIndex always (λ x. x) r h (λ p f. fails-then (literal w) (λ _. number) k f) (λ x e g. got-then (literal w) (λ _. number) k g) (λ x. refl) (λ x. refl)
+  index-behind k h = scans-behind (literal w) number k h
 
   -- a keyword, an index and what G reads behind them
   module _ (G : ℕ → Reader Statement) where
     pub indexed-fails : {p : ℕ} → Fails (behind w number) s 0 p → Fails (behind w (λ r. next (number r) G)) s 0 p
-    indexed-fails f =
-        let h = fails-first (behind w number) G f in
-        record { reads = sym (next-assoc (literal w s) (λ _. number) G) ∙ h .reads; onward = h .onward; inside = h .inside }
+    indexed-fails f = fails-as (sym (next-assoc (literal w s) (λ _. number) G)) (fails-first (behind w number) G f)
 
     module _ {i m : ℕ} (g : Got (behind w number) s 0 i m) where
       pub indexed-fails-then : {p : ℕ} → Fails (G i) s m p → Fails (behind w (λ r. next (number r) G)) s 0 p
-      indexed-fails-then f =
-          let h = fails-then (behind w number) G g f in
-          record { reads = sym (next-assoc (literal w s) (λ _. number) G) ∙ h .reads; onward = h .onward; inside = h .inside }
+      indexed-fails-then f = fails-as (sym (next-assoc (literal w s) (λ _. number) G)) (fails-then (behind w number) G g f)
 
       indexed-got : {st : Statement} {e : ℕ} → Got (G i) s m st e → Got (behind w (λ r. next (number r) G)) s 0 st e
-      indexed-got f =
-          let h = got-then (behind w number) G g f in
-          record { reads = sym (next-assoc (literal w s) (λ _. number) G) ∙ h .reads; onward = h .onward; inside = h .inside }
+      indexed-got f = got-as (sym (next-assoc (literal w s) (λ _. number) G)) (got-then (behind w number) G g f)
 
 -- the pairs one after the other, and at one stroke
 pairs-then : (r : Bytes) (f : List Pair → Reader Statement)
@@ -112,19 +105,19 @@ module _ {s : Bytes} where
 
   pub lin-fails-pairs : {i m j q : ℕ} {p : Written} → Got (behind (bytes "lin") number) s 0 i m → Got field s m p j → Fails pairs s j q → Fails (headed lins) s 0 q
   lin-fails-pairs {i} {m} {j} {q} {p} g h f =
-      let k = fails-first pairs (λ qs. give (lin i p qs)) f in
-      indexed-fails-then (bytes "lin") _ g (fails-then field _ h (record { reads = sym (pairs-then (drop j s) (λ qs. give (lin i p qs))) ∙ k .reads; onward = k .onward; inside = k .inside }))
+      let r : List Pair → Reader Statement = λ qs. give (lin i p qs) in
+      indexed-fails-then (bytes "lin") _ g (fails-then field _ h (fails-as (sym (pairs-then (drop j s) r)) (fails-first pairs r f)))
 
   pub lin-scans : {m j e : ℕ} {a b d x y z : Bool} → Scanned (behind (bytes "lin") number) isIndex always s 0 m a x → Scanned field inRange fewTerms s m j b y
       → Scanned pairs (every pairRanged) (every pairFew) s j e d z → Scans (headed lins) numbersInRange fewInFields s 0 (Field e (a && (b && d)) (y && z))
   unfolding fewInFields fields
   lin-scans {m} {j} i p qs =
       let f : List Pair → Reader Statement = λ l. give (lin (i .value) (p .value) l) in
-      let k = got-then pairs f (qs .taken) (got-give (lin (i .value) (p .value) (qs .value)) (qs .taken .inside)) in
+      let k = got-as (sym (pairs-then (drop j s) f)) (got-then pairs f (qs .taken) (got-give (lin (i .value) (p .value) (qs .value)) (qs .taken .inside))) in
       record {
         said = record {
           value = lin (i .value) (p .value) (qs .value);
-          taken = indexed-got (bytes "lin") _ (i .taken) (got-then field _ (p .taken) (record { reads = sym (pairs-then (drop j s) f) ∙ k .reads; onward = k .onward; inside = k .inside }));
+          taken = indexed-got (bytes "lin") _ (i .taken) (got-then field _ (p .taken) k);
           in-range = ap₂ _&&_ (i .in-range) (ap₂ _&&_ (p .in-range) (qs .in-range)) ∙ ranged-lin (i .value) (p .value) (qs .value);
           short = ap₂ _&&_ (p .short) (qs .short) ∙ few-lin (p .value) (qs .value);
         };

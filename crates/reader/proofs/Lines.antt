@@ -10,7 +10,7 @@ use lib.Seq.{drop-cons}
 use borrow.Author.Tests.{eq-eqb, ne-eqb}
 use Rattle.ground.specs.Lists.{every, any}
 use Rattle.limits.specs.Limits.{greatestRing, greatestIndex}
-use Rattle.paper.specs.Grammar.{Bytes, bytes, got, stuck, Reader, literal, decimal, polynomial, tab, number, field, pair}
+use Rattle.paper.specs.Grammar.{Bytes, bytes, got, stuck, Reader, next, literal, decimal, polynomial, tab, number, field, pair}
 use Rattle.paper.specs.Statement.{Written, Pair, ring, input, goal, lin, del, ext, newIndex, namedIndices, fields, within, isRing, isIndex, isVariable, inRange, numbersInRange, tooManyTerms}
 use Rattle.reader.specs.Places.{Got, Fails}
 use Rattle.reader.specs.Fields.{always, fewTerms, Scanned, Scans}
@@ -28,6 +28,12 @@ module _ {A B : Type 0} {read : Reader A} {read′ : Reader B} {ranged few : A �
       let c = r .said in
       record { said = record { value = h (c .value); taken = g (c .value) e (c .taken); in-range = c .in-range ∙ i (c .value); short = c .short ∙ j (c .value) } }
   scans-as (Stopped p) r f g i j = record { said = f p (r .said) }
+
+-- a reader behind another that gives nothing
+pub scans-behind : {A : Type 0} (first : Reader (Unit {0})) (read : Reader A) {ranged few : A → Bool} {s : Bytes} {at m : ℕ} {r : FieldScan} → Got first s at tt m
+    → Scans read ranged few s m r → Scans (λ t. next (first t) (λ _. read)) ranged few s at r
+scans-behind first read {ranged} {few} {r = r} g h =
+    scans-as ranged few (λ x. x) r h (λ p f. fails-then first _ g f) (λ x e f. got-then first _ g f) (λ x. refl) (λ x. refl)
 
 -- ---- behind a tab
 module _ (s : Bytes) (at : ℕ) where
@@ -49,7 +55,7 @@ number-fails f = fails-first tab _ f
 
 pub number-behind : {ranged : ℕ → Bool} {s : Bytes} {at : ℕ} {r : FieldScan} → Got tab s at tt (at + 1) → Scans decimal ranged always s (at + 1) r → Scans number ranged always s at r
 unfolding number
-number-behind {ranged} {s} {at} {r} t h = scans-as ranged always (λ x. x) r h (λ p f. fails-then tab _ t f) (λ x e g. got-then tab _ t g) (λ x. refl) (λ x. refl)
+number-behind t h = scans-behind tab decimal t h
 
 pub field-fails : {s : Bytes} {at p : ℕ} → Fails tab s at p → Fails field s at p
 unfolding field
@@ -57,7 +63,7 @@ field-fails f = fails-first tab _ f
 
 pub field-behind : {s : Bytes} {at : ℕ} {r : FieldScan} → Got tab s at tt (at + 1) → Scans polynomial inRange fewTerms s (at + 1) r → Scans field inRange fewTerms s at r
 unfolding field
-field-behind {s} {at} {r} t h = scans-as inRange fewTerms (λ x. x) r h (λ p f. fails-then tab _ t f) (λ x e g. got-then tab _ t g) (λ x. refl) (λ x. refl)
+field-behind t h = scans-behind tab polynomial t h
 
 -- ---- pairs
 pub pair-fails : {s : Bytes} {at p : ℕ} → Fails decimal s at p → Fails pair s at p

@@ -30,6 +30,14 @@ module _ {A B : Type 0} (read : Reader A) (f : A → Reader B) {s : Bytes} {at :
   pub fails-first : {p : ℕ} → Fails read s at p → Fails (λ r. next (read r) f) s at p
   fails-first h = record { reads = ap (λ (r : Read A). next r f) (h .reads); onward = h .onward; inside = h .inside }
 
+-- one reader as another
+module _ {A : Type 0} {read read′ : Reader A} {s : Bytes} {at : ℕ} (q : read′ (drop at s) ≡ read (drop at s)) where
+  pub got-as : {x : A} {e : ℕ} → Got read s at x e → Got read′ s at x e
+  got-as g = record { reads = q ∙ g .reads; onward = g .onward; inside = g .inside }
+
+  pub fails-as : {p : ℕ} → Fails read s at p → Fails read′ s at p
+  fails-as f = record { reads = q ∙ f .reads; onward = f .onward; inside = f .inside }
+
 pub got-give : {A : Type 0} (x : A) {s : Bytes} {at : ℕ} → at ≤ length s → Got (give x) s at x at
 got-give x {s} {at} h = record { reads = refl; onward = omega arith; inside = h }
 

@@ -19,7 +19,7 @@ use Rattle.words.specs.Parts.{part}
 use Rattle.words.proofs.Parts.{length-part}
 use Rattle.paper.specs.Grammar.{Bytes, onFirst, lines, got}
 use Rattle.paper.proofs.Reading.{inField, takes-polynomial}
-use Rattle.reader.specs.Search.{amongEight, Without, FirstAt, LineEnd, EndsField, WholeField, FieldEnd}
+use Rattle.reader.specs.Search.{amongEight, Without, FirstOrEnd, LineEnd, EndsField, WholeField, FieldEnd}
 
 -- ---- b is none of the bytes from at up to i
 module _ (b : ℕ) (s : Bytes) (at : ℕ) where
@@ -59,7 +59,7 @@ lines-last [] h n = absurd (not-suc-le-zero h)
 lines-last (b ∷ []) h n = rw (ne-eqb b 10 (n 0 (omega arith)))
 lines-last (b ∷ d ∷ w) h n = rw (ne-eqb b 10 (n 0 (omega arith)), lines-last (d ∷ w) (omega arith) (λ k l. n (suc k) (omega arith)))
 
-pub line-end : (text : Bytes) (at r : ℕ) → FirstAt 10 text at r → LineEnd text at r
+pub line-end : (text : Bytes) (at r : ℕ) → FirstOrEnd 10 text at r → LineEnd text at r
 line-end text at r f =
     record {
       onward = f .without .onward;
@@ -92,7 +92,7 @@ no-tab s at k j e h l i t =
 ends-tab : (s : Bytes) (e : ℕ) → e < length s → EndsField (drop e s) → getD s e 0 ≡ 9
 ends-tab s e h t = subst (λ (l : Bytes). EndsField l) (drop-cons s e 0 h) t
 
-pub field-end : (s : Bytes) (at r : ℕ) → at ≤ length s → WholeField s at → FirstAt 9 s at r → FieldEnd s at r
+pub field-end : (s : Bytes) (at r : ℕ) → at ≤ length s → WholeField s at → FirstOrEnd 9 s at r → FieldEnd s at r
 unfolding inField
 field-end s at r h w f =
     let a = takes-polynomial (drop at s) (w .written) (w .rest) (w .reads) in

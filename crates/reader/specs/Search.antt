@@ -24,7 +24,7 @@ pub record Without (b : ℕ) (s : Bytes) (at r : ℕ) : Type 0 where
   pub none : (k : ℕ) → k < r → at ≤ k → getD s k 0 ≡ b → ⊥
 
 -- r is the place of the first b from at on, or the length
-pub record FirstAt (b : ℕ) (s : Bytes) (at r : ℕ) : Type 0 where
+pub record FirstOrEnd (b : ℕ) (s : Bytes) (at r : ℕ) : Type 0 where
   pub without : Without b s at r
   pub found : r < length s → getD s r 0 ≡ b
 

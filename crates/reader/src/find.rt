@@ -2,7 +2,7 @@
 ghost use mathlib.Core.Path.{_≡_};
 ghost use Prim.Native.Nat.{_+_, _≤_};
 ghost use lib.ListN.{length};
-ghost use Rattle.reader.specs.Search.{amongEight, Without, FirstAt, LineEnd, WholeField, FieldEnd};
+ghost use Rattle.reader.specs.Search.{amongEight, Without, FirstOrEnd, LineEnd, WholeField, FieldEnd};
 
 // How many bytes are looked at in one turn: the compiler makes one test of so many.
 const BLOCK: usize = 8;
@@ -22,7 +22,7 @@ fn among(s: &[u8], i: usize, b: u8) -> bool
         | (s[i + 7] == b)
 }
 
-// A place before which b does not stand, with b among the next eight bytes, or fewer than eight left.
+// A place from at on before which b does not stand: it passes over eight bytes at a time.
 fn skip(s: &[u8], at: usize, b: u8) -> usize
     requires { ⌜ at ≤ length (now s) ⌝ }
     ensures { λ r. ⌜ Without b (now (s .entry)) at r ⌝ }
@@ -40,7 +40,7 @@ fn skip(s: &[u8], at: usize, b: u8) -> usize
 // The place of the first byte b from at on, or the length.
 fn find_byte(s: &[u8], at: usize, b: u8) -> usize
     requires { ⌜ at ≤ length (now s) ⌝ }
-    ensures { λ r. ⌜ FirstAt b (now (s .entry)) at r ⌝ }
+    ensures { λ r. ⌜ FirstOrEnd b (now (s .entry)) at r ⌝ }
 {
     let mut i = skip(s, at, b);
     while i < s.len() {
