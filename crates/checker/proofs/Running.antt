@@ -2,19 +2,19 @@
 use mathlib.Core.Path.{_≡_, refl, sym, ap, ap₂, subst, _∙_}
 use mathlib.Core.Bool.{Bool, true, false}
 use mathlib.Core.List.{List, _∷_}
-use Prim.Native.Nat.{ℕ, suc, _+_, _*_, _≤_, _<_}
+use Prim.Native.Nat.{ℕ, suc, _+_, _-_, _*_, _≤_, _<_}
 use native.Mathlib.Numerals.{add-one}
 use native.Mathlib.Omega.{arith}
 use lib.Dec.{ltb}
 use lib.ListN.{length, drop, drop-of-length-le}
 use borrow.Author.Tests.{eq-eqb, ne-eqb, ltb-true, ltb-false}
 use Rattle.limits.specs.Limits.{textBytes, mostPoolTerms, termWords, leastScratch}
+use Rattle.words.specs.Parts.{part}
 use Rattle.paper.specs.Grammar.{Bytes, Line, lines, statement}
 use Rattle.paper.specs.Rules as paper
 use Rattle.paper.specs.Rules.{start}
 use Rattle.paper.specs.Answer as answers
 use Rattle.paper.proofs.Running.{run-stands, run-refused}
-use Rattle.reader.specs.Places.{part}
 use Rattle.reader.specs.Search.{LineEnd}
 use Rattle.table.specs.Table.{Packed}
 use Rattle.table.proofs.Laws.{store-length, store-terms}
@@ -48,13 +48,13 @@ module _ {a : answers.Answer} (s : paper.State) (n : ℕ) where
 
 -- ---- the next line
 abbrev lineAt : Bytes → ℕ → ℕ → Line
-lineAt text at e = record { content = part text at e; ended = ltb e (length text) }
+lineAt text at e = record { content = part at (e - at) text; ended = ltb e (length text) }
 
 next-line : {text : Bytes} {at e : ℕ} → LineEnd text at e → at < length text → lines (drop at text) ≡ lineAt text at e ∷ lines (drop (e + 1) text)
 unfolding lines
 next-line {text} {at} {e} h l = go (ltb e (length text)) refl
   where
-    go : (b : Bool) → ltb e (length text) ≡ b → lines (drop at text) ≡ record { content = part text at e; ended = b } ∷ lines (drop (e + 1) text)
+    go : (b : Bool) → ltb e (length text) ≡ b → lines (drop at text) ≡ record { content = part at (e - at) text; ended = b } ∷ lines (drop (e + 1) text)
     go true q = h .ended (ltb-true e (length text) q)
     go false q =
         let m : length text ≤ e = ltb-false e (length text) q in

@@ -47,7 +47,7 @@ append-term s at n out out′ t l h r e =
       within = rw z (behind-within 0 n out (t .term) out′ (omega arith) l f);
     }
 
-pub worded-append : (p q : Written) → worded (p ++ q) ≡ worded p ++ worded q
+worded-append : (p q : Written) → worded (p ++ q) ≡ worded p ++ worded q
 unfolding worded
 worded-append [] q = refl
 worded-append (t ∷ p) q = ap (λ (r : Poly). wordedTerm t ∷ r) (worded-append p q)

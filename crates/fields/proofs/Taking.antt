@@ -1,23 +1,22 @@
--- What can be read at a place: a decimal that a word holds, the next of as many items as follow, and the parts of a term.
+-- What can be read at a place: a decimal that a word holds, and the next of as many items as follow; and sets and signs as words have them.
 -- Assumes nothing.
 use mathlib.Core.Path.{_≡_, refl, sym, ap, _∙_}
 use mathlib.Core.Bool.{Bool, true, false, _&&_}
-use mathlib.Core.Logic.{⊎-elim}
 use mathlib.Core.List.{List, [], _∷_, _++_}
 use Prim.Native.Nat.{ℕ, _+_, _-_, _*_, _%_, _^_, _≤_, _<_}
 use native.Mathlib.Omega.{arith}
 use lib.Bits.{bitOr, or-comm}
-use lib.ListN.{length, drop, getD, length-append}
-use lib.Dec.{ltb}
-use borrow.Author.Tests.{ltb-true, ltb-false, lt-ltb}
+use lib.ListN.{length, drop, getD, replicate, length-append}
+use borrow.Author.Tests.{ltb-true, lt-ltb}
 use Rattle.ground.specs.Lists.{every}
-use Rattle.ground.proofs.Tests.{split, and-left, and-right}
+use Rattle.ground.proofs.Tests.{and-left, and-right}
+use Rattle.limits.specs.Limits.{variables, setWords}
 use Rattle.algebra.proofs.Unions.{or-assoc}
 use Rattle.words.specs.Words.{number}
 use Rattle.paper.specs.Grammar.{Bytes, Read, got, stuck, Reader, next, each, digits, decimal}
 use Rattle.paper.specs.Statement.{isVariable, setOf}
 use Rattle.paper.proofs.Ranges.{cond-yes, cond-no}
-use Rattle.paper.proofs.Reading.{parted, Takes, each-more, each-stuck, every-append}
+use Rattle.paper.proofs.Reading.{clash, parted, Takes, each-more, each-stuck, every-append}
 use Rattle.paper.proofs.Pieces.{digits-more, digits-least, decimal-first, decimal-low, decimal-high, decimal-end}
 use Rattle.fields.specs.Worded.{signedWord}
 use Rattle.fields.specs.Fields.{Good, isWord}
@@ -31,20 +30,20 @@ pub same-rest : {A : Type 0} {r : Read A} {x y : A} {s t : Bytes} → r ≡ got 
 same-rest p q = cc
 
 pub not-both : {A : Type 0} {r : Read A} {x : A} {s t : Bytes} → r ≡ got x s → r ≡ stuck t → ⊥
-not-both p q = let z : _≡_ {A = ℕ} 0 1 = cc in omega arith
+not-both p q = clash (sym q ∙ p)
 
 -- ---- a decimal that a word holds
-pub is-word : (n : ℕ) → isWord n ≡ true → n < 2 ^ 64
+is-word : (n : ℕ) → isWord n ≡ true → n < 2 ^ 64
 unfolding isWord
 is-word n e = ltb-true n (2 ^ 64) e
 
 pub variable-word : (v : ℕ) → isVariable v ≡ true → isWord v ≡ true
 unfolding isVariable isWord
-variable-word v e = let h : v < 256 = ltb-true v 256 e in lt-ltb v (2 ^ 64) (omega arith)
+variable-word v e = let h = ltb-true v variables e in lt-ltb v (2 ^ 64) (omega arith)
 
-pub is-variable : (v : ℕ) → isVariable v ≡ true → v < 256
+pub is-variable : (v : ℕ) → isVariable v ≡ true → v < variables
 unfolding isVariable
-is-variable v e = ltb-true v 256 e
+is-variable v e = ltb-true v variables e
 
 pub good-weaken : {A : Type 0} {read : Reader A} {f g : A → Bool} {s : Bytes} {at : ℕ} → ((x : A) → f x ≡ true → g x ≡ true) → Good read f s at → Good read g s at
 good-weaken h p = record { value = p .value; rest = p .rest; reads = p .reads; passes = h (p .value) (p .passes); inside = p .inside }
@@ -91,7 +90,7 @@ pub following-length : {A : Type 0} {item : Reader A} {test : A → Bool} {s : B
 following-length {items = items} f = omega (arith, ap length (f .parts) ∙ length-append items (f .good .value ∷ f .more))
 
 -- ---- sets
-pub set-of-more : (vs : List ℕ) (v : ℕ) → setOf (vs ++ (v ∷ [])) ≡ bitOr (2 ^ v) (setOf vs)
+set-of-more : (vs : List ℕ) (v : ℕ) → setOf (vs ++ (v ∷ [])) ≡ bitOr (2 ^ v) (setOf vs)
 unfolding setOf
 set-of-more [] v = refl
 set-of-more (u ∷ vs) v =
@@ -99,6 +98,14 @@ set-of-more (u ∷ vs) v =
     ∙ sym (or-assoc (2 ^ u) (2 ^ v) (setOf vs))
     ∙ ap (λ (x : ℕ). bitOr x (setOf vs)) (or-comm (2 ^ u) (2 ^ v))
     ∙ or-assoc (2 ^ v) (2 ^ u) (setOf vs)
+
+pub no-variables : number (replicate setWords 0) ≡ setOf []
+unfolding number setOf
+no-variables = refl
+
+-- one variable more
+pub one-more : (m x v : ℕ) (vs : List ℕ) → x ≡ bitOr (2 ^ v) m → m ≡ setOf vs → x ≡ setOf (vs ++ (v ∷ []))
+one-more m x v vs e h = e ∙ ap (bitOr (2 ^ v)) h ∙ sym (set-of-more vs v)
 
 -- ---- signs
 pub signed-negative : (b : Bool) (c r : ℕ) → b ≡ true → r ≡ (2 ^ 64 - c) % 2 ^ 64 → r ≡ signedWord b c
@@ -108,14 +115,6 @@ signed-negative b c r e q = q ∙ sym (cond-yes b ((2 ^ 64 - c) % 2 ^ 64) c e)
 pub signed-positive : (b : Bool) (c : ℕ) → b ≡ false → c ≡ signedWord b c
 unfolding signedWord
 signed-positive b c e = sym (cond-no b ((2 ^ 64 - c) % 2 ^ 64) c e)
-
-pub no-variables : number (0 ∷ 0 ∷ 0 ∷ 0 ∷ []) ≡ setOf []
-unfolding number setOf
-no-variables = refl
-
--- one variable more
-pub one-more : (m x v : ℕ) (vs : List ℕ) → x ≡ bitOr (2 ^ v) m → m ≡ setOf vs → x ≡ setOf (vs ++ (v ∷ []))
-one-more m x v vs e h = e ∙ ap (bitOr (2 ^ v)) h ∙ sym (set-of-more vs v)
 
 -- ---- digits of a decimal that a word holds: with one more of them a word still holds it
 pub digit-fits : (first : ℕ) (s : Bytes) (at v i : ℕ) → Good (digits first) isWord s at → digits first (drop at s) ≡ digits v (drop i s) → i < length s
@@ -133,16 +132,11 @@ pub record Digit (s : Bytes) (at : ℕ) : Type 0 where
 
 pub first-digit : (s : Bytes) (at : ℕ) → Good decimal isWord s at → Digit s at
 first-digit s at g =
-    ⊎-elim
-    (λ h. ⊎-elim
-    (λ l. absurd (not-both (g .reads) (decimal-low s at (ltb-true at (length s) h) (ltb-true (getD s at 0) 48 l))))
-    (λ l. ⊎-elim
-    (λ u. absurd (not-both (g .reads) (decimal-high s at (ltb-true at (length s) h) (ltb-true 57 (getD s at 0) u))))
-    (λ u. record { inside = ltb-true at (length s) h; low = ltb-false (getD s at 0) 48 l; high = ltb-false 57 (getD s at 0) u })
-    (split (ltb 57 (getD s at 0))))
-    (split (ltb (getD s at 0) 48)))
-    (λ h. absurd (not-both (g .reads) (decimal-end s at (ltb-false at (length s) h))))
-    (split (ltb at (length s)))
+    let e : length s ≤ at → ⊥ = λ h. not-both (g .reads) (decimal-end s at h) in
+    let i : at < length s = omega arith in
+    let l : getD s at 0 < 48 → ⊥ = λ h. not-both (g .reads) (decimal-low s at i h) in
+    let u : 57 < getD s at 0 → ⊥ = λ h. not-both (g .reads) (decimal-high s at i h) in
+    record { inside = i; low = omega arith; high = omega arith }
 
 pub good-digits : (s : Bytes) (at : ℕ) → Good decimal isWord s at → (getD s at 0 ≡ 48 → ⊥) → Good (digits (getD s at 0 - 48)) isWord s (at + 1)
 good-digits s at g n =

@@ -22,14 +22,14 @@ pub struct Taken {
 
 // Variables and their end.
 struct Named {
-    pub set: Set,
-    pub end: usize,
+    set: Set,
+    end: usize,
 }
 
 // A term and its end.
 struct TermRead {
-    pub term: Term,
-    pub end: usize,
+    term: Term,
+    end: usize,
 }
 
 // How many terms a field has, and its end.

@@ -14,7 +14,7 @@ use Rattle.ground.proofs.Congruence.{Same, same-add, same-cancel, same-
 use Rattle.ground.proofs.Tests.{split}
 
 -- equal modulo 2 ^ suc k, so modulo 2 ^ k
-pub same-down : (k : ℕ) {x y : ℕ} → Same (2 ^ suc k) x y → Same (2 ^ k) x y
+same-down : (k : ℕ) {x y : ℕ} → Same (2 ^ suc k) x y → Same (2 ^ k) x y
 same-down k {x} {y} h =
     record { same = sym (down x) ∙ ap (λ (z : ℕ). z % 2 ^ k) (h .same) ∙ down y }
   where

@@ -5,14 +5,16 @@ use mathlib.Core.List.{List, [], _∷_}
 use Prim.Native.Nat.{ℕ, _-_, _^_, _≤_, _<_}
 use native.Mathlib.Omega.{arith}
 use lib.Dec.{ltb}
-use lib.ListN.{length, drop, length-drop}
-use lib.Seq.{length-take-le}
+use lib.ListN.{length, drop}
 use borrow.Author.Tests.{ltb-true, ltb-false}
 use Rattle.ground.specs.Lists.{any}
 use Rattle.limits.specs.Verdicts.{ACCEPTED, NUMBER, TERMS}
+use Rattle.words.specs.Parts.{part}
+use Rattle.words.proofs.Parts.{length-part}
 use Rattle.paper.specs.Grammar.{Bytes, Line as TextLine, Reader, polynomial}
 use Rattle.paper.specs.Statement.{Statement, fields, numbersInRange, tooManyTerms}
-use Rattle.reader.specs.Places.{part, Got, Fails}
+use Rattle.paper.proofs.Reading.{clash}
+use Rattle.reader.specs.Places.{Got, Fails}
 use Rattle.reader.specs.Search.{LineEnd, FieldEnd}
 use Rattle.reader.specs.Numbers.{TooLarge, DecimalIs}
 use Rattle.reader.specs.Fields.{Scans, Said}
@@ -24,24 +26,17 @@ use Rattle.reader.specs.declared.field.FieldScan.the-variants.{Field, St
 use Rattle.reader.specs.declared.line.Kind.{Kind}
 use Rattle.reader.specs.declared.line.LineScan.{LineScan}
 use Rattle.reader.specs.declared.line.LineScan.the-variants.{Line, Stuck}
-use Rattle.reader.proofs.Fields.{same-end}
+use Rattle.reader.proofs.Fields.{same-place, same-end}
 
 -- ---- a reader reads or stops, and at one place
-same-rest : (s : Bytes) (p q : ℕ) → p ≤ length s → q ≤ length s → drop p s ≡ drop q s → p ≡ q
-same-rest s p q h k e = omega (arith, ap length e, length-drop p s, length-drop q s)
-
 same-stop : {A : Type 0} {read : Reader A} {s : Bytes} {at p q : ℕ} → Fails read s at p → Fails read s at q → p ≡ q
 same-stop {s = s} {p = p} {q = q} x y =
     let d = x .reads in
     let e = y .reads in
-    same-rest s p q (x .inside) (y .inside) (cc)
+    same-place s p q (x .inside) (y .inside) (cc)
 
 not-both : {A : Type 0} {read : Reader A} {s : Bytes} {at e p : ℕ} {x : A} → Got read s at x e → Fails read s at p → ⊥
-not-both g f =
-    let d = g .reads in
-    let e = f .reads in
-    let z : _≡_ {A = ℕ} 0 1 = cc in
-    omega arith
+not-both g f = clash (sym (f .reads) ∙ g .reads)
 
 -- ---- `decimal_at`: a value is a word
 abbrev pub Held : Decimal → Type 0
@@ -84,9 +79,6 @@ pub one-field-end : (s : Bytes) (at r q : ℕ) → FieldEnd s at r → FieldEnd 
 one-field-end s at r q x y = same-end polynomial s at (x .taken) (y .taken) .1
 
 -- ---- `line_end`
-length-part : (s : Bytes) (at e : ℕ) → e ≤ length s → length (part s at e) ≡ e - at
-length-part s at e h = length-take-le (e - at) (drop at s) (omega (arith, length-drop at s))
-
 -- the first of some lines: its length, and whether it ended
 abbrev long : List TextLine → ℕ
 long ls = elim ls [ [] ↦ 0 | l ∷ r ↦ length (l .content) ]
@@ -106,20 +98,16 @@ module _ (text : Bytes) (at : ℕ) where
     where
       go : (x y : Bool) → ltb r (length text) ≡ x → ltb q (length text) ≡ y → r ≡ q
       go true true h k =
-          let e : length (part text at r) ≡ length (part text at q)
+          let e : length (part at (r - at) text) ≡ length (part at (q - at) text)
           = ap long (sym (a .ended (ltb-true r (length text) h)) ∙ b .ended (ltb-true q (length text) k)) in
-          omega (arith, e, length-part text at r (a .inside), length-part text at q (b .inside), a .onward, b .onward)
+          omega (arith, length-part at (r - at) text (omega arith), length-part at (q - at) text (omega arith))
       go true false h k = absurd (unlike a b (ltb-true r (length text) h) (ltb-false q (length text) k))
       go false true h k = absurd (unlike b a (ltb-true q (length text) k) (ltb-false r (length text) h))
       go false false h k = omega (arith, ltb-false r (length text) h, ltb-false q (length text) k, a .inside, b .inside)
 
 -- ---- `scan_line`
-no-both : {s : Bytes} {ended : Bool} {k : Kind} {v q : ℕ} → Stands s ended k v → Halts s ended q → ⊥
-no-both x y =
-    let d = x .reads in
-    let e = y .reads in
-    let z : _≡_ {A = ℕ} 0 1 = cc in
-    omega arith
+stands-not-halts : {s : Bytes} {ended : Bool} {k : Kind} {v q : ℕ} → Stands s ended k v → Halts s ended q → ⊥
+stands-not-halts x y = clash (sym (y .reads) ∙ x .reads)
 
 pub one-line : (s : Bytes) (ended : Bool) (r q : LineScan) → LineIs s ended r → LineIs s ended q → r ≡ q
 one-line s ended (Line k v) (Line l w) x y =
@@ -130,9 +118,9 @@ one-line s ended (Line k v) (Line l w) x y =
     (x .verdict
     ∙ ap (λ (st : Statement). cond (not (numbersInRange st)) NUMBER (cond (any tooManyTerms (fields st)) TERMS ACCEPTED)) f
     ∙ sym (y .verdict))
-one-line s ended (Line k v) (Stuck q) x y = absurd (no-both x y)
-one-line s ended (Stuck p) (Line l w) x y = absurd (no-both y x)
+one-line s ended (Line k v) (Stuck q) x y = absurd (stands-not-halts x y)
+one-line s ended (Stuck p) (Line l w) x y = absurd (stands-not-halts y x)
 one-line s ended (Stuck p) (Stuck q) x y =
     let d = x .reads in
     let e = y .reads in
-    ap (λ i. Stuck i) (same-rest s p q (x .inside) (y .inside) (cc))
+    ap (λ i. Stuck i) (same-place s p q (x .inside) (y .inside) (cc))

@@ -2,7 +2,7 @@
 use mathlib.Core.Path.{_≡_, refl, sym, ap, ap₂, _∙_, subst}
 use mathlib.Core.Bool.{Bool, true, false, _&&_, not, cond}
 use mathlib.Core.List.{List, [], _∷_}
-use Prim.Native.Nat.{ℕ, suc, _<_}
+use Prim.Native.Nat.{ℕ, suc, _-_, _<_}
 use native.Mathlib.Omega.{arith}
 use lib.Dec.{ltb}
 use lib.ListN.{length, drop, getD, drop-of-length-le}
@@ -10,7 +10,7 @@ use lib.Seq.{drop-cons, drop-length}
 use borrow.Author.Tests.{ltb-true, ltb-false, ne-eqb}
 use Rattle.ground.specs.Lists.{every, any}
 use Rattle.ground.proofs.Tests.{by-cond}
-use Rattle.limits.specs.Limits.{greatestRing, greatestIndex}
+use Rattle.limits.specs.Limits.{variables, greatestRing, greatestIndex}
 use Rattle.limits.specs.Verdicts.{ACCEPTED, NUMBER, TERMS}
 use Rattle.paper.specs.Grammar.{Bytes, bytes, Read, got, stuck, Reader, next, give, literal, end, tab, number, field, pair, kinds, beginsAlike, oneOf, statement}
 use Rattle.paper.specs.Statement.{Written, Pair, Statement, ring, input, goal, lin, del, ext, fields, within, isIndex, inRange, numbersInRange, tooManyTerms}
@@ -23,10 +23,10 @@ use Rattle.reader.specs.declared.field.FieldScan.the-variants.{Field, St
 use Rattle.reader.specs.declared.line.Kind.{Kind}
 use Rattle.reader.specs.declared.line.LineScan.{LineScan}
 use Rattle.reader.specs.declared.line.LineScan.the-variants.{Line, Stuck}
-use Rattle.reader.proofs.Scans.{got-then, fails-then, fails-first, got-give, next-same}
+use Rattle.reader.proofs.Scans.{got-then, fails-then, fails-first, got-as, fails-as, got-give, next-same}
 use Rattle.reader.proofs.Polynomials.{variable-range}
 use Rattle.reader.proofs.Fields.{FieldsAt, whole, closing}
-use Rattle.reader.proofs.Lines.{scans-as, ranged-ring, ranged-input, ranged-goal, ranged-lin, ranged-del, ranged-ext, few-one, few-lin}
+use Rattle.reader.proofs.Lines.{scans-as, scans-behind, ranged-ring, ranged-input, ranged-goal, ranged-lin, ranged-del, ranged-ext, few-one, few-lin}
 
 -- ---- the kinds
 module _ (w : Bytes) {s : Bytes} where
@@ -35,26 +35,19 @@ module _ (w : Bytes) {s : Bytes} where
 
   pub index-behind : {m : ℕ} {r : FieldScan} → Got (literal w) s 0 tt m → Scans number (within 1 greatestIndex) always s m r → Scans (behind w number) isIndex always s 0 r
   unfolding isIndex
-  index-behind {m} {r} k h =
-      scans-as isIndex always (λ x. x) r h (λ p f. fails-then (literal w) (λ _. number) k f) (λ x e g. got-then (literal w) (λ _. number) k g) (λ x. refl) (λ x. refl)
+  index-behind k h = scans-behind (literal w) number k h
 
   -- a keyword, an index and what G reads behind them
   module _ (G : ℕ → Reader Statement) where
-    indexed-fails : {p : ℕ} → Fails (behind w number) s 0 p → Fails (behind w (λ r. next (number r) G)) s 0 p
-    indexed-fails f =
-        let h = fails-first (behind w number) G f in
-        record { reads = sym (next-assoc (literal w s) (λ _. number) G) ∙ h .reads; onward = h .onward; inside = h .inside }
+    pub indexed-fails : {p : ℕ} → Fails (behind w number) s 0 p → Fails (behind w (λ r. next (number r) G)) s 0 p
+    indexed-fails f = fails-as (sym (next-assoc (literal w s) (λ _. number) G)) (fails-first (behind w number) G f)
 
     module _ {i m : ℕ} (g : Got (behind w number) s 0 i m) where
-      indexed-fails-then : {p : ℕ} → Fails (G i) s m p → Fails (behind w (λ r. next (number r) G)) s 0 p
-      indexed-fails-then f =
-          let h = fails-then (behind w number) G g f in
-          record { reads = sym (next-assoc (literal w s) (λ _. number) G) ∙ h .reads; onward = h .onward; inside = h .inside }
+      pub indexed-fails-then : {p : ℕ} → Fails (G i) s m p → Fails (behind w (λ r. next (number r) G)) s 0 p
+      indexed-fails-then f = fails-as (sym (next-assoc (literal w s) (λ _. number) G)) (fails-then (behind w number) G g f)
 
       indexed-got : {st : Statement} {e : ℕ} → Got (G i) s m st e → Got (behind w (λ r. next (number r) G)) s 0 st e
-      indexed-got f =
-          let h = got-then (behind w number) G g f in
-          record { reads = sym (next-assoc (literal w s) (λ _. number) G) ∙ h .reads; onward = h .onward; inside = h .inside }
+      indexed-got f = got-as (sym (next-assoc (literal w s) (λ _. number) G)) (got-then (behind w number) G g f)
 
 -- the pairs one after the other, and at one stroke
 pairs-then : (r : Bytes) (f : List Pair → Reader Statement)
@@ -84,14 +77,6 @@ module _ {s : Bytes} where
   del-scans {r} h =
       scans-as numbersInRange fewInFields (λ i. del i) r h (λ p f. indexed-fails (bytes "del") _ f) (λ x e g. indexed-got (bytes "del") _ g (got-give (del x) (g .inside))) ranged-del (λ x. refl)
 
-  -- ---- input
-  pub input-fails : {p : ℕ} → Fails (behind (bytes "in") number) s 0 p → Fails (headed inputs) s 0 p
-  input-fails f = indexed-fails (bytes "in") _ f
-
-  module _ {i m : ℕ} (g : Got (behind (bytes "in") number) s 0 i m) where
-    pub input-fails-field : {p : ℕ} → Fails field s m p → Fails (headed inputs) s 0 p
-    input-fails-field f = indexed-fails-then (bytes "in") _ g (fails-first field _ f)
-
   pub input-scans : {m e : ℕ} {a b x y : Bool} → Scanned (behind (bytes "in") number) isIndex always s 0 m a x → Scanned field inRange fewTerms s m e b y
       → Scans (headed inputs) numbersInRange fewInFields s 0 (Field e (a && b) y)
   unfolding fewInFields fields
@@ -105,18 +90,7 @@ module _ {s : Bytes} where
         };
       }
 
-  -- ---- ext
-  pub ext-fails : {p : ℕ} → Fails (behind (bytes "ext") number) s 0 p → Fails (headed exts) s 0 p
-  ext-fails f = indexed-fails (bytes "ext") _ f
-
-  module _ {i m : ℕ} (g : Got (behind (bytes "ext") number) s 0 i m) where
-    pub ext-fails-variable : {p : ℕ} → Fails number s m p → Fails (headed exts) s 0 p
-    ext-fails-variable f = indexed-fails-then (bytes "ext") _ g (fails-first number _ f)
-
-    pub ext-fails-field : {v j p : ℕ} → Got number s m v j → Fails field s j p → Fails (headed exts) s 0 p
-    ext-fails-field v f = indexed-fails-then (bytes "ext") _ g (fails-then number _ v (fails-first field _ f))
-
-  pub ext-scans : {m j e : ℕ} {a b d x y z : Bool} → Scanned (behind (bytes "ext") number) isIndex always s 0 m a x → Scanned number (within 0 255) always s m j b z
+  pub ext-scans : {m j e : ℕ} {a b d x y z : Bool} → Scanned (behind (bytes "ext") number) isIndex always s 0 m a x → Scanned number (within 0 (variables - 1)) always s m j b z
       → Scanned field inRange fewTerms s j e d y → Scans (headed exts) numbersInRange fewInFields s 0 (Field e ((a && b) && d) y)
   unfolding fewInFields fields
   ext-scans i v p =
@@ -129,29 +103,21 @@ module _ {s : Bytes} where
         };
       }
 
-  -- ---- lin
-  pub lin-fails : {p : ℕ} → Fails (behind (bytes "lin") number) s 0 p → Fails (headed lins) s 0 p
-  lin-fails f = indexed-fails (bytes "lin") _ f
-
-  module _ {i m : ℕ} (g : Got (behind (bytes "lin") number) s 0 i m) where
-    pub lin-fails-field : {p : ℕ} → Fails field s m p → Fails (headed lins) s 0 p
-    lin-fails-field f = indexed-fails-then (bytes "lin") _ g (fails-first field _ f)
-
-    pub lin-fails-pairs : {p : Written} {j q : ℕ} → Got field s m p j → Fails pairs s j q → Fails (headed lins) s 0 q
-    lin-fails-pairs {p} {j} {q} h f =
-        let k = fails-first pairs (λ qs. give (lin i p qs)) f in
-        indexed-fails-then (bytes "lin") _ g (fails-then field _ h (record { reads = sym (pairs-then (drop j s) (λ qs. give (lin i p qs))) ∙ k .reads; onward = k .onward; inside = k .inside }))
+  pub lin-fails-pairs : {i m j q : ℕ} {p : Written} → Got (behind (bytes "lin") number) s 0 i m → Got field s m p j → Fails pairs s j q → Fails (headed lins) s 0 q
+  lin-fails-pairs {i} {m} {j} {q} {p} g h f =
+      let r : List Pair → Reader Statement = λ qs. give (lin i p qs) in
+      indexed-fails-then (bytes "lin") _ g (fails-then field _ h (fails-as (sym (pairs-then (drop j s) r)) (fails-first pairs r f)))
 
   pub lin-scans : {m j e : ℕ} {a b d x y z : Bool} → Scanned (behind (bytes "lin") number) isIndex always s 0 m a x → Scanned field inRange fewTerms s m j b y
       → Scanned pairs (every pairRanged) (every pairFew) s j e d z → Scans (headed lins) numbersInRange fewInFields s 0 (Field e (a && (b && d)) (y && z))
   unfolding fewInFields fields
   lin-scans {m} {j} i p qs =
       let f : List Pair → Reader Statement = λ l. give (lin (i .value) (p .value) l) in
-      let k = got-then pairs f (qs .taken) (got-give (lin (i .value) (p .value) (qs .value)) (qs .taken .inside)) in
+      let k = got-as (sym (pairs-then (drop j s) f)) (got-then pairs f (qs .taken) (got-give (lin (i .value) (p .value) (qs .value)) (qs .taken .inside))) in
       record {
         said = record {
           value = lin (i .value) (p .value) (qs .value);
-          taken = indexed-got (bytes "lin") _ (i .taken) (got-then field _ (p .taken) (record { reads = sym (pairs-then (drop j s) f) ∙ k .reads; onward = k .onward; inside = k .inside }));
+          taken = indexed-got (bytes "lin") _ (i .taken) (got-then field _ (p .taken) k);
           in-range = ap₂ _&&_ (i .in-range) (ap₂ _&&_ (p .in-range) (qs .in-range)) ∙ ranged-lin (i .value) (p .value) (qs .value);
           short = ap₂ _&&_ (p .short) (qs .short) ∙ few-lin (p .value) (qs .value);
         };
@@ -186,30 +152,6 @@ module _ {s : Bytes} (k : LineKind) (K : Kind) (here : oneOf kinds s ≡ whole k
       })
 
 -- the first byte settles the kind
-pub first-ring : (w : Bytes) → oneOf kinds (114 ∷ w) ≡ whole rings (114 ∷ w)
-unfolding kinds oneOf beginsAlike bytes
-first-ring w = refl
-
-pub first-input : (w : Bytes) → oneOf kinds (105 ∷ w) ≡ whole inputs (105 ∷ w)
-unfolding kinds oneOf beginsAlike bytes
-first-input w = refl
-
-pub first-goal : (w : Bytes) → oneOf kinds (103 ∷ w) ≡ whole goals (103 ∷ w)
-unfolding kinds oneOf beginsAlike bytes
-first-goal w = refl
-
-pub first-lin : (w : Bytes) → oneOf kinds (108 ∷ w) ≡ whole lins (108 ∷ w)
-unfolding kinds oneOf beginsAlike bytes
-first-lin w = refl
-
-pub first-del : (w : Bytes) → oneOf kinds (100 ∷ w) ≡ whole dels (100 ∷ w)
-unfolding kinds oneOf beginsAlike bytes
-first-del w = refl
-
-pub first-ext : (w : Bytes) → oneOf kinds (101 ∷ w) ≡ whole exts (101 ∷ w)
-unfolding kinds oneOf beginsAlike bytes
-first-ext w = refl
-
 module _ (s : Bytes) (h : 0 < length s) where
   begins : (b : ℕ) → getD s 0 0 ≡ b → s ≡ b ∷ drop 1 s
   begins b e = drop-cons s 0 0 h ∙ ap (λ (x : ℕ). x ∷ drop 1 s) e

@@ -1,6 +1,6 @@
--- Fields behind tabs, pairs, keywords and whole lines as they are scanned. Assumes nothing.
-use mathlib.Core.Path.{_≡_, refl, ap, ap₂, _∙_}
-use mathlib.Core.Bool.{Bool, true, false, _&&_, _||_, not}
+-- Fields behind tabs, pairs and keywords as they are scanned, and the tests of a statement from those of its parts. Assumes nothing.
+use mathlib.Core.Path.{_≡_, refl, sym, ap, ap₂, _∙_}
+use mathlib.Core.Bool.{Bool, true, false, _&&_, _||_, not, and-true, and-assoc, and-comm}
 use mathlib.Core.List.{List, [], _∷_, map}
 use Prim.Native.Nat.{ℕ, _+_, _≤_, _<_}
 use native.Mathlib.Numerals.{add-one}
@@ -10,7 +10,7 @@ use lib.Seq.{drop-cons}
 use borrow.Author.Tests.{eq-eqb, ne-eqb}
 use Rattle.ground.specs.Lists.{every, any}
 use Rattle.limits.specs.Limits.{greatestRing, greatestIndex}
-use Rattle.paper.specs.Grammar.{Bytes, bytes, got, stuck, Reader, literal, decimal, polynomial, tab, number, field, pair}
+use Rattle.paper.specs.Grammar.{Bytes, bytes, got, stuck, Reader, next, literal, decimal, polynomial, tab, number, field, pair}
 use Rattle.paper.specs.Statement.{Written, Pair, ring, input, goal, lin, del, ext, newIndex, namedIndices, fields, within, isRing, isIndex, isVariable, inRange, numbersInRange, tooManyTerms}
 use Rattle.reader.specs.Places.{Got, Fails}
 use Rattle.reader.specs.Fields.{always, fewTerms, Scanned, Scans}
@@ -28,6 +28,12 @@ module _ {A B : Type 0} {read : Reader A} {read′ : Reader B} {ranged few : A �
       let c = r .said in
       record { said = record { value = h (c .value); taken = g (c .value) e (c .taken); in-range = c .in-range ∙ i (c .value); short = c .short ∙ j (c .value) } }
   scans-as (Stopped p) r f g i j = record { said = f p (r .said) }
+
+-- a reader behind another that gives nothing
+pub scans-behind : {A : Type 0} (first : Reader (Unit {0})) (read : Reader A) {ranged few : A → Bool} {s : Bytes} {at m : ℕ} {r : FieldScan} → Got first s at tt m
+    → Scans read ranged few s m r → Scans (λ t. next (first t) (λ _. read)) ranged few s at r
+scans-behind first read {ranged} {few} {r = r} g h =
+    scans-as ranged few (λ x. x) r h (λ p f. fails-then first _ g f) (λ x e f. got-then first _ g f) (λ x. refl) (λ x. refl)
 
 -- ---- behind a tab
 module _ (s : Bytes) (at : ℕ) where
@@ -49,7 +55,7 @@ number-fails f = fails-first tab _ f
 
 pub number-behind : {ranged : ℕ → Bool} {s : Bytes} {at : ℕ} {r : FieldScan} → Got tab s at tt (at + 1) → Scans decimal ranged always s (at + 1) r → Scans number ranged always s at r
 unfolding number
-number-behind {ranged} {s} {at} {r} t h = scans-as ranged always (λ x. x) r h (λ p f. fails-then tab _ t f) (λ x e g. got-then tab _ t g) (λ x. refl) (λ x. refl)
+number-behind t h = scans-behind tab decimal t h
 
 pub field-fails : {s : Bytes} {at p : ℕ} → Fails tab s at p → Fails field s at p
 unfolding field
@@ -57,7 +63,7 @@ field-fails f = fails-first tab _ f
 
 pub field-behind : {s : Bytes} {at : ℕ} {r : FieldScan} → Got tab s at tt (at + 1) → Scans polynomial inRange fewTerms s (at + 1) r → Scans field inRange fewTerms s at r
 unfolding field
-field-behind {s} {at} {r} t h = scans-as inRange fewTerms (λ x. x) r h (λ p f. fails-then tab _ t f) (λ x e g. got-then tab _ t g) (λ x. refl) (λ x. refl)
+field-behind t h = scans-behind tab polynomial t h
 
 -- ---- pairs
 pub pair-fails : {s : Bytes} {at p : ℕ} → Fails decimal s at p → Fails pair s at p
@@ -126,69 +132,53 @@ unfolding literal
 literal-all s w i h = rw (drop-of-length-le w h)
 
 -- ---- tests of a statement
-and-true : (b : Bool) → b ≡ (b && true)
-and-true true = refl
-and-true false = refl
-
 not-or : (a b : Bool) → (not a && not b) ≡ not (a || b)
 not-or true b = refl
 not-or false b = refl
 
-crossed : (a b x y : Bool) → (a && (b && (x && y))) ≡ ((a && x) && (b && y))
+crossed : (a b x y : Bool) → ((a && b) && (x && y)) ≡ ((a && x) && (b && y))
 crossed true true x y = refl
 crossed true false true y = refl
 crossed true false false y = refl
 crossed false b x y = refl
 
-swapped : (a b c : Bool) → ((a && b) && c) ≡ ((b && (a && true)) && (c && true))
-swapped true true c = and-true c
-swapped true false c = refl
-swapped false true c = refl
-swapped false false c = refl
-
 pub ranged-ring : (k : ℕ) → within 1 greatestRing k ≡ numbersInRange (ring k)
 unfolding numbersInRange isRing newIndex namedIndices fields every
-ranged-ring k = and-true (within 1 greatestRing k) ∙ and-true (within 1 greatestRing k && true) ∙ and-true ((within 1 greatestRing k && true) && true)
+ranged-ring k = simp and-true
 
 pub ranged-input : (i : ℕ) (p : Written) → (isIndex i && inRange p) ≡ numbersInRange (input i p)
 unfolding numbersInRange newIndex namedIndices fields every
-ranged-input i p = ap₂ _&&_ (and-true (isIndex i)) (and-true (inRange p))
+ranged-input i p = simp and-true
 
 pub ranged-goal : (p : Written) → inRange p ≡ numbersInRange (goal p)
 unfolding numbersInRange newIndex namedIndices fields every
-ranged-goal p = and-true (inRange p)
+ranged-goal p = simp and-true
 
 ranged-pairs : (qs : List Pair) → every pairRanged qs ≡ (every isIndex (map (λ q. q .index) qs) && every inRange (map (λ q. q .factor) qs))
 unfolding every pairRanged
 ranged-pairs [] = refl
 ranged-pairs (q ∷ qs) =
     ap (λ (b : Bool). (isIndex (q .index) && inRange (q .factor)) && b) (ranged-pairs qs)
-    ∙ go (isIndex (q .index)) (inRange (q .factor)) (every isIndex (map (λ q. q .index) qs)) (every inRange (map (λ q. q .factor) qs))
-  where
-    go : (a b x y : Bool) → ((a && b) && (x && y)) ≡ ((a && x) && (b && y))
-    go true true x y = refl
-    go true false true y = refl
-    go true false false y = refl
-    go false b x y = refl
+    ∙ crossed (isIndex (q .index)) (inRange (q .factor)) (every isIndex (map (λ q. q .index) qs)) (every inRange (map (λ q. q .factor) qs))
 
 pub ranged-lin : (i : ℕ) (p : Written) (qs : List Pair) → (isIndex i && (inRange p && every pairRanged qs)) ≡ numbersInRange (lin i p qs)
 unfolding numbersInRange newIndex namedIndices fields every
 ranged-lin i p qs =
-    ap (λ (b : Bool). isIndex i && (inRange p && b)) (ranged-pairs qs)
+    sym (and-assoc (isIndex i) (inRange p) (every pairRanged qs)) ∙ ap (λ (b : Bool). (isIndex i && inRange p) && b) (ranged-pairs qs)
     ∙ crossed (isIndex i) (inRange p) (every isIndex (map (λ q. q .index) qs)) (every inRange (map (λ q. q .factor) qs))
 
 pub ranged-del : (i : ℕ) → isIndex i ≡ numbersInRange (del i)
 unfolding numbersInRange newIndex namedIndices fields every
-ranged-del i = and-true (isIndex i) ∙ and-true (isIndex i && true)
+ranged-del i = simp and-true
 
 pub ranged-ext : (i v : ℕ) (p : Written) → ((isIndex i && isVariable v) && inRange p) ≡ numbersInRange (ext i v p)
 unfolding numbersInRange newIndex namedIndices fields every
-ranged-ext i v p = swapped (isIndex i) (isVariable v) (inRange p)
+ranged-ext i v p = simp and-true (ap (λ (b : Bool). b && inRange p) (and-comm (isIndex i) (isVariable v)))
 
 -- of a statement with one polynomial
 pub few-one : (p : Written) → fewTerms p ≡ not (any tooManyTerms (p ∷ []))
 unfolding fewTerms any
-few-one p = and-true (fewTerms p) ∙ not-or (tooManyTerms p) false
+few-one p = sym (and-true (fewTerms p)) ∙ not-or (tooManyTerms p) false
 
 few-pairs : (qs : List Pair) → every pairFew qs ≡ not (any tooManyTerms (map (λ q. q .factor) qs))
 unfolding every any pairFew fewTerms

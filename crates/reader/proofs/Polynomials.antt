@@ -1,9 +1,9 @@
 -- Numbers, variables, terms and polynomials as they are scanned. Assumes nothing.
 use mathlib.Core.Path.{_≡_, refl, sym, ap, ap₂, _∙_}
 use mathlib.Core.Bool.{Bool, true, false, _&&_, not, cond}
-use mathlib.Core.Logic.{_⊎_, ⊎-elim}
+use mathlib.Core.Logic.{⊎-elim}
 use mathlib.Core.List.{List, [], _∷_, _++_}
-use Prim.Native.Nat.{ℕ, suc, _+_, _≤_, _<_}
+use Prim.Native.Nat.{ℕ, suc, _+_, _-_, _≤_, _<_}
 use Prim.Native.Char.{code}
 use native.Mathlib.Numerals.{add-one}
 use native.Mathlib.Omega.{arith}
@@ -38,12 +38,12 @@ module _ (s : Bytes) (at : ℕ) where
   sign-end h = rw (drop-of-length-le s h)
 
 -- ---- variables
-pub variable-range : (v : ℕ) → within 0 255 v ≡ isVariable v
+pub variable-range : (v : ℕ) → within 0 (variables - 1) v ≡ isVariable v
 unfolding isVariable
 variable-range v =
-    bool-ext (leb 0 v && leb v 255) (ltb v variables)
-    (λ t. lt-ltb v 256 (omega (arith, leb-true v 255 (and-right (leb 0 v) (leb v 255) t))))
-    (λ t. and-both (leb 0 v) (leb v 255) (le-leb 0 v (omega arith)) (le-leb v 255 (omega (arith, ltb-true v 256 t))))
+    bool-ext (within 0 (variables - 1) v) (ltb v variables)
+    (λ t. lt-ltb v variables (omega (arith, leb-true v (variables - 1) (and-right (leb 0 v) (leb v (variables - 1)) t))))
+    (λ t. and-both (leb 0 v) (leb v (variables - 1)) (le-leb 0 v (omega arith)) (le-leb v (variables - 1) (omega (arith, ltb-true v variables t))))
 
 -- ---- terms
 module _ {s : Bytes} {at i : ℕ} {negative : Bool} (g : Got sign s at negative i) where
@@ -76,12 +76,11 @@ polynomial-fails h = fails-first term _ h
 
 few-more : (t : WrittenTerm) (ts : List WrittenTerm) → fewMore ts ≡ fewTerms (t ∷ ts)
 unfolding fewMore fewTerms tooManyTerms
-few-more t ts = go (split (ltb (length ts) 96))
-  where
-    go : (ltb (length ts) 96 ≡ true) ⊎ (ltb (length ts) 96 ≡ false) → ltb (length ts) 96 ≡ not (ltb 96 (suc (length ts)))
-    go = ⊎-elim
-        (λ t. let l = ltb-true (length ts) 96 t in rw (t, le-ltb 96 (suc (length ts)) (omega arith)))
-        (λ t. let l = ltb-false (length ts) 96 t in rw (t, lt-ltb 96 (suc (length ts)) (omega arith)))
+few-more t ts =
+    ⊎-elim
+    (λ t. let l = ltb-true (length ts) fieldTerms t in rw (t, le-ltb fieldTerms (suc (length ts)) (omega arith)))
+    (λ t. let l = ltb-false (length ts) fieldTerms t in rw (t, lt-ltb fieldTerms (suc (length ts)) (omega arith)))
+    (split (ltb (length ts) fieldTerms))
 
 pub few-count : (ts : List WrittenTerm) (n : ℕ) → n ≡ length ts → ltb n fieldTerms ≡ fewMore ts
 unfolding fewMore

@@ -1,6 +1,6 @@
 -- Scans of readers in a row, and of as many items as follow. Assumes nothing.
 use mathlib.Core.Path.{_≡_, refl, sym, ap, ap₂, _∙_}
-use mathlib.Core.Bool.{Bool, true, false, _&&_}
+use mathlib.Core.Bool.{Bool, true, _&&_, and-true}
 use mathlib.Core.List.{List, [], _∷_, _++_, append-assoc, append-nil}
 use Prim.Native.Nat.{ℕ, _+_, _≤_, _<_}
 use native.Mathlib.Omega.{arith}
@@ -29,6 +29,14 @@ module _ {A B : Type 0} (read : Reader A) (f : A → Reader B) {s : Bytes} {at :
 
   pub fails-first : {p : ℕ} → Fails read s at p → Fails (λ r. next (read r) f) s at p
   fails-first h = record { reads = ap (λ (r : Read A). next r f) (h .reads); onward = h .onward; inside = h .inside }
+
+-- one reader as another
+module _ {A : Type 0} {read read′ : Reader A} {s : Bytes} {at : ℕ} (q : read′ (drop at s) ≡ read (drop at s)) where
+  pub got-as : {x : A} {e : ℕ} → Got read s at x e → Got read′ s at x e
+  got-as g = record { reads = q ∙ g .reads; onward = g .onward; inside = g .inside }
+
+  pub fails-as : {p : ℕ} → Fails read s at p → Fails read′ s at p
+  fails-as f = record { reads = q ∙ f .reads; onward = f .onward; inside = f .inside }
 
 pub got-give : {A : Type 0} (x : A) {s : Bytes} {at : ℕ} → at ≤ length s → Got (give x) s at x at
 got-give x {s} {at} h = record { reads = refl; onward = omega arith; inside = h }
@@ -126,8 +134,4 @@ every-none f = refl
 -- a test of every item, one more at the end
 pub every-more : {A : Type 0} (f : A → Bool) (xs : List A) (x : A) (a b : Bool) → a ≡ every f xs → b ≡ f x → (a && b) ≡ every f (xs ++ (x ∷ []))
 unfolding every
-every-more f xs x a b p q = rw (every-append f xs (x ∷ [])) (ap₂ _&&_ p (q ∙ go (f x)))
-  where
-    go : (b : Bool) → b ≡ (b && true)
-    go true = refl
-    go false = refl
+every-more f xs x a b p q = rw (every-append f xs (x ∷ [])) (ap₂ _&&_ p (q ∙ sym (and-true (f x))))

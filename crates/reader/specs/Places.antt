@@ -1,12 +1,8 @@
 -- What a reader of the paper does at a place of a line, said by places.
 use mathlib.Core.Path.{_≡_}
-use Prim.Native.Nat.{ℕ, _-_, _≤_}
-use lib.ListN.{length, take, drop}
+use Prim.Native.Nat.{ℕ, _≤_}
+use lib.ListN.{length, drop}
 use Rattle.paper.specs.Grammar.{Bytes, Reader, got, stuck}
-
--- the bytes from a place up to another
-abbrev pub part : Bytes → ℕ → ℕ → Bytes
-part s at e = take (e - at) (drop at s)
 
 -- it reads x from at up to e
 pub record Got {A : Type 0} (read : Reader A) (s : Bytes) (at : ℕ) (x : A) (e : ℕ) : Type 0 where

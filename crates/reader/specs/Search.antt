@@ -1,35 +1,39 @@
 -- Where a byte first stands, and where a line of a text and a field of a line end.
 use mathlib.Core.Path.{_≡_}
-use mathlib.Core.Bool.{true, false, not}
+use mathlib.Core.Bool.{Bool, true, false, _||_}
 use mathlib.Core.List.{[], _∷_}
-use Prim.Native.Nat.{ℕ, _+_, _≤_, _<_}
+use Prim.Native.Nat.{ℕ, _+_, _-_, _≤_, _<_}
 use Prim.Native.Char.{code}
 use lib.Dec.{eqb}
 use lib.ListN.{length, drop, getD}
-use Rattle.ground.specs.Lists.{every}
+use Rattle.words.specs.Parts.{part}
 use Rattle.paper.specs.Grammar.{Bytes, lines, got, polynomial}
 use Rattle.paper.specs.Statement.{Written}
-use Rattle.reader.specs.Places.{part, Got}
+use Rattle.reader.specs.Places.{Got}
+
+-- whether b is one of the eight bytes from i on
+abbrev pub amongEight : Bytes → ℕ → ℕ → Bool
+amongEight s i b =
+    eqb (getD s i 0) b || eqb (getD s (i + 1) 0) b || eqb (getD s (i + 2) 0) b || eqb (getD s (i + 3) 0) b
+    || eqb (getD s (i + 4) 0) b || eqb (getD s (i + 5) 0) b || eqb (getD s (i + 6) 0) b || eqb (getD s (i + 7) 0) b
 
 -- b does not stand from at up to r
 pub record Without (b : ℕ) (s : Bytes) (at r : ℕ) : Type 0 where
   pub onward : at ≤ r
   pub inside : r ≤ length s
-  pub none : every (λ x. not (eqb x b)) (part s at r) ≡ true
+  pub none : (k : ℕ) → k < r → at ≤ k → getD s k 0 ≡ b → ⊥
 
 -- r is the place of the first b from at on, or the length
-pub record FirstAt (b : ℕ) (s : Bytes) (at r : ℕ) : Type 0 where
-  pub onward : at ≤ r
-  pub inside : r ≤ length s
+pub record FirstOrEnd (b : ℕ) (s : Bytes) (at r : ℕ) : Type 0 where
+  pub without : Without b s at r
   pub found : r < length s → getD s r 0 ≡ b
-  pub none : every (λ x. not (eqb x b)) (part s at r) ≡ true
 
 -- the line that begins at at ends at r: before its byte 10, or without one
 pub record LineEnd (text : Bytes) (at r : ℕ) : Type 0 where
   pub onward : at ≤ r
   pub inside : r ≤ length text
-  pub ended : r < length text → lines (drop at text) ≡ record { content = part text at r; ended = true } ∷ lines (drop (r + 1) text)
-  pub last : at < length text → length text ≤ r → lines (drop at text) ≡ record { content = part text at r; ended = false } ∷ []
+  pub ended : r < length text → lines (drop at text) ≡ record { content = part at (r - at) text; ended = true } ∷ lines (drop (r + 1) text)
+  pub last : at < length text → length text ≤ r → lines (drop at text) ≡ record { content = part at (r - at) text; ended = false } ∷ []
 
 -- nothing, or a tab first
 abbrev pub EndsField : Bytes → Type 0

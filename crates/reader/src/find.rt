@@ -1,10 +1,8 @@
 // Searches for one byte: where a line ends in a text, and where a field ends in a line.
 ghost use mathlib.Core.Path.{_≡_};
 ghost use Prim.Native.Nat.{_+_, _≤_};
-ghost use lib.Dec.{eqb};
-ghost use lib.ListN.{length, take, drop};
-ghost use Rattle.ground.specs.Lists.{any};
-ghost use Rattle.reader.specs.Search.{Without, FirstAt, LineEnd, WholeField, FieldEnd};
+ghost use lib.ListN.{length};
+ghost use Rattle.reader.specs.Search.{amongEight, Without, FirstOrEnd, LineEnd, WholeField, FieldEnd};
 
 // How many bytes are looked at in one turn: the compiler makes one test of so many.
 const BLOCK: usize = 8;
@@ -12,7 +10,7 @@ const BLOCK: usize = 8;
 // Whether b is one of the eight bytes from i on.
 fn among(s: &[u8], i: usize, b: u8) -> bool
     requires { ⌜ i + 8 ≤ length (now s) ⌝ }
-    ensures { λ r. ⌜ r ≡ any (λ x. eqb x b) (take 8 (drop i (now (s .entry)))) ⌝ }
+    ensures { λ r. ⌜ r ≡ amongEight (now (s .entry)) i b ⌝ }
 {
     (s[i] == b)
         | (s[i + 1] == b)
@@ -24,7 +22,7 @@ fn among(s: &[u8], i: usize, b: u8) -> bool
         | (s[i + 7] == b)
 }
 
-// A place before which b does not stand, with b among the next eight bytes, or fewer than eight left.
+// A place from at on before which b does not stand: it passes over eight bytes at a time.
 fn skip(s: &[u8], at: usize, b: u8) -> usize
     requires { ⌜ at ≤ length (now s) ⌝ }
     ensures { λ r. ⌜ Without b (now (s .entry)) at r ⌝ }
@@ -42,7 +40,7 @@ fn skip(s: &[u8], at: usize, b: u8) -> usize
 // The place of the first byte b from at on, or the length.
 fn find_byte(s: &[u8], at: usize, b: u8) -> usize
     requires { ⌜ at ≤ length (now s) ⌝ }
-    ensures { λ r. ⌜ FirstAt b (now (s .entry)) at r ⌝ }
+    ensures { λ r. ⌜ FirstOrEnd b (now (s .entry)) at r ⌝ }
 {
     let mut i = skip(s, at, b);
     while i < s.len() {

@@ -23,8 +23,8 @@ use Rattle.paper.specs.Rules.{Store, modulo, stored, first, rules, overfull, af
 use Rattle.paper.proofs.Store.{Distinct, distinct-append}
 use Rattle.table.specs.declared.Table.{Table}
 use Rattle.table.specs.Table.{storeOf, Fitting}
-use Rattle.table.specs.Steps.{Pushed}
 use Rattle.table.proofs.Laws.{store-length, store-terms, store-kept}
+use Rattle.table.proofs.Pushing.{Pushed}
 use Rattle.regions.specs.Regions.{statedAt, goalAt}
 use Rattle.steps.specs.declared.state.State.{State}
 use Rattle.steps.specs.declared.state.Step.{Step}

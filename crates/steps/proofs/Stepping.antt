@@ -21,8 +21,9 @@ use Rattle.fields.proofs.Taking.{same-value}
 use Rattle.table.specs.declared.Table.{Table}
 use Rattle.table.specs.Table.{storeOf}
 use Rattle.table.specs.Steps as table
-use Rattle.table.specs.Steps.{FirstAt, Forgotten}
-use Rattle.table.proofs.Laws.{found-stored, fresh-fitting, forgotten-fitting}
+use Rattle.table.specs.Steps.{FirstAt}
+use Rattle.table.proofs.Laws.{found-stored, fresh-fitting}
+use Rattle.table.proofs.Forgetting.{Forgotten, forgotten-fitting}
 use Rattle.regions.specs.Regions.{goalAt}
 use Rattle.steps.specs.declared.state.State.{State}
 use Rattle.steps.specs.declared.state.Step.{Step}

@@ -15,7 +15,7 @@ use Rattle.table.specs.Steps.{FirstAt, Finds, Closed, Fresh}
 use Rattle.table.proofs.Laws.{store-length}
 
 -- ---- `find`
-pub one-place : (column : List ℕ) (n x i j : ℕ) → FirstAt column n x i → FirstAt column n x j → i ≡ j
+one-place : (column : List ℕ) (n x i j : ℕ) → FirstAt column n x i → FirstAt column n x j → i ≡ j
 one-place column n x i j a b = one-first (λ (k : ℕ). getD column k 0 ≡ x) i j (a .here) (b .here) (a .earlier .nowhere) (b .earlier .nowhere)
 
 pub one-found : (column : List ℕ) (n x : ℕ) (r q : Found) → Finds column n x r → Finds column n x q → r ≡ q

@@ -1,6 +1,6 @@
 -- Lists f 0, f 1, ..: lengths, beginnings and rests, when two are equal, and look-ups in a store that is one. Assumes nothing.
 use mathlib.Core.Path.{_≡_, refl, sym, ap, ap₂, _∙_}
-use mathlib.Core.Bool.{Bool, true, false, _||_}
+use mathlib.Core.Bool.{true, false, or-true}
 use mathlib.Core.List.{List, [], _∷_, _++_, append-nil, append-assoc}
 use Prim.Native.Nat.{ℕ, zero, suc, _+_, _-_, _≤_, _<_}
 use native.Mathlib.Numerals.{add-one}
@@ -67,11 +67,7 @@ stored-none f (suc n) x h =
 module _ (a b : Store) (e : Entry) (x : ℕ) (here : e .index ≡ x) where
   pub stored-split : stored (a ++ (e ∷ b)) x ≡ true
   unfolding stored any
-  stored-split = stored-append a (e ∷ b) x ∙ rw (eq-eqb x (e .index) (sym here)) (last (stored a x))
-    where
-      last : (t : Bool) → (t || true) ≡ true
-      last true = refl
-      last false = refl
+  stored-split = stored-append a (e ∷ b) x ∙ rw (eq-eqb x (e .index) (sym here)) (or-true (stored a x))
 
   pub find-split : stored a x ≡ false → find (a ++ (e ∷ b)) x ≡ e .poly
   unfolding find

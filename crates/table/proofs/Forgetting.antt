@@ -18,8 +18,8 @@ use Rattle.terms.specs.Terms.{decode}
 use Rattle.terms.proofs.Decode.{decode-same}
 use Rattle.paper.specs.Rules.{Store, remove}
 use Rattle.table.specs.declared.Table.{Table}
-use Rattle.table.specs.Table.{firsts, polyAt, entryAt, termsBefore, PackedColumns, Packed}
-use Rattle.table.specs.Steps.{Closed, FirstAt, Forgotten}
+use Rattle.table.specs.Table.{firsts, polyAt, entryAt, storeOf, termsBefore, PackedColumns, Packed, Fitting}
+use Rattle.table.specs.Steps.{Closed, FirstAt}
 use Rattle.table.proofs.Firsts.{firsts-split, firsts-cut, behind, stored-none, remove-split}
 use Rattle.table.proofs.Moving.{moved-part}
 use Rattle.table.proofs.Packing.{before-more, before-same, ends-before, ends-used}
@@ -130,6 +130,13 @@ module _ (is ss cs pool js ts ds : List ℕ) (j n used : ℕ) (p : PackedColumns
       after : (k : ℕ) → j ≤ k → k + 1 < n → entryAt js ts ds left k ≡ entryAt is ss cs pool (k + 1)
       after k l m = ap₂ (λ (i : ℕ) (q : Poly). record { index = i; poly = q }) (ci .behind k l m ∙ sub-zero _) (poly-behind k l m)
 
+-- the j-th entry, which is the first under its index, is gone from the table and the pool
+pub record Forgotten (s : Table) (pool : List ℕ) (j : ℕ) (r : Table) (left : List ℕ) : Type 0 where
+  pub store : (x : ℕ) → FirstAt (s .indices) (s .stored) x j → storeOf r left ≡ remove (storeOf s pool) x
+  pub packed : Packed r
+  pub stored : r .stored + 1 ≡ s .stored
+  pub used : r .used + getD (s .counts) j 0 ≡ s .used
+
 -- a table whose three columns and whose pool are closed over the j-th polynomial, count terms from term start on
 pub forgotten : (s : Table) (pool js ts ds left : List ℕ) (j start count : ℕ) → Packed s → j < s .stored → s .used * termWords ≤ length pool
     → start ≡ getD (s .starts) j 0 → count ≡ getD (s .counts) j 0
@@ -147,3 +154,7 @@ forgotten s pool js ts ds left j start count p h room es ec ci ct cd e =
       stored = omega arith;
       used = omega (arith, ends-used (s .starts) (s .counts) (s .stored) (s .used) j p h);
     }
+
+pub forgotten-fitting : (s r : Table) (pool left : List ℕ) (capacity j : ℕ) → Fitting s pool capacity
+    → Forgotten s pool j r left → length left ≡ length pool → Fitting r left capacity
+forgotten-fitting s r pool left capacity j f p h = record { packed = p .packed; room = omega (arith, p .used); words = omega arith; most = f .most }

@@ -1,5 +1,5 @@
--- What the checker goes by: the store's size, where its entries lie, what leaves it as it was, what a search for an index says of it,
--- and that the table fits the pool after each step. Assumes nothing.
+-- What the checker goes by: the store's size, what leaves it as it was, what a search for an index says of it, and that a new table fits.
+-- Assumes nothing.
 use mathlib.Core.Path.{_≡_, refl, sym, ap, subst, _∙_}
 use mathlib.Core.Bool.{true, false}
 use mathlib.Core.List.{List, [], _∷_}
@@ -18,7 +18,7 @@ use Rattle.table.specs.declared.Found.{Found}
 use Rattle.table.specs.declared.Found.the-variants.{At, Nothing}
 use Rattle.table.specs.declared.Table.{Table}
 use Rattle.table.specs.Table.{firsts, polyAt, entryAt, storeOf, termsBefore, Packed, Fitting}
-use Rattle.table.specs.Steps.{Absent, FirstAt, Finds, Fresh, Forgotten}
+use Rattle.table.specs.Steps.{Absent, FirstAt, Finds, Fresh}
 use Rattle.table.proofs.Firsts.{firsts-length, firsts-same, firsts-split, behind, stored-none, stored-split, find-split}
 use Rattle.table.proofs.Packing.{ends-used}
 
@@ -35,7 +35,6 @@ terms is ss cs pool (suc n) =
 pub store-terms : (s : Table) (pool : List ℕ) → Packed s → storedTerms (storeOf s pool) ≡ s .used
 store-terms s pool p = terms (s .indices) (s .starts) (s .counts) pool (s .stored) ∙ sym (p .ends)
 
--- ---- where an entry's words lie
 -- ---- words behind the used ones do not matter
 pub poly-kept : (ss cs pool r : List ℕ) (a e j : ℕ) → Within a e pool r → getD ss j 0 * termWords + getD cs j 0 * termWords ≤ a
     → polyAt ss cs r j ≡ polyAt ss cs pool j
@@ -76,11 +75,7 @@ module _ (s : Table) (pool : List ℕ) (x j : ℕ) (f : FirstAt (s .indices) (s 
       rw (firsts-split at j (s .stored) (f .inside))
       (find-split (firsts at j) (behind at j (s .stored)) (at j) x (f .here) (stored-none at j x (f .earlier .nowhere)))
 
--- ---- the table fits the pool after each step
+-- ---- a new table
 pub fresh-fitting : (r : Table) (pool : List ℕ) (capacity : ℕ) → Fresh r
     → capacity * termWords ≤ length pool → capacity ≤ mostPoolTerms → Fitting r pool capacity
 fresh-fitting r pool capacity f w m = record { packed = f .packed; room = omega (arith, f .used); words = w; most = m }
-
-pub forgotten-fitting : (s r : Table) (pool left : List ℕ) (capacity j : ℕ) → Fitting s pool capacity
-    → Forgotten s pool j r left → length left ≡ length pool → Fitting r left capacity
-forgotten-fitting s r pool left capacity j f p h = record { packed = p .packed; room = omega (arith, p .used); words = omega arith; most = f .most }

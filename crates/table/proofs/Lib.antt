@@ -1,7 +1,6 @@
 pub mod Firsts
 pub mod Moving
 pub mod Packing
-pub mod Searching
 pub mod Laws
 pub mod Pushing
 pub mod Forgetting

@@ -42,7 +42,7 @@ pub used-short : (ss cs : List ℕ) (n used : ℕ) → PackedColumns ss cs n use
 used-short ss cs n used p = omega (arith, p .ends, before-short cs n (p .short))
 
 -- one starts no earlier than one before it is long
-pub later-starts : (ss cs : List ℕ) (n used j k : ℕ) → PackedColumns ss cs n used → j < k → k < n → getD cs j 0 ≤ getD ss k 0
+later-starts : (ss cs : List ℕ) (n used j k : ℕ) → PackedColumns ss cs n used → j < k → k < n → getD cs j 0 ≤ getD ss k 0
 later-starts ss cs n used j k p l m = omega (arith, p .begins k m, ends-before cs j k l)
 
 -- ---- a column may be closed: with nothing to lower, and one of starts over a polynomial of count terms

@@ -11,8 +11,7 @@ use Rattle.limits.specs.Limits.{storedPolynomials, fieldTerms, termWords}
 use Rattle.terms.specs.Terms.{decode}
 use Rattle.paper.specs.Rules.{Entry, Store}
 use Rattle.table.specs.declared.Table.{Table}
-use Rattle.table.specs.Table.{firsts, entryAt, termsBefore, PackedColumns, Packed}
-use Rattle.table.specs.Steps.{Pushed}
+use Rattle.table.specs.Table.{firsts, entryAt, storeOf, termsBefore, PackedColumns, Packed}
 use Rattle.table.proofs.Firsts.{firsts-same, firsts-more}
 use Rattle.table.proofs.Packing.{before-more, before-same}
 
@@ -56,6 +55,13 @@ module _ (is ss cs : List ℕ) (n used index terms : ℕ) (li : n < length is) (
       alike : (i j a b c d : ℕ) → i ≡ j → a ≡ b → c ≡ d
           → _≡_ {A = Entry} (record { index = i; poly = decode c (drop (a * termWords) pool) }) (record { index = j; poly = decode d (drop (b * termWords) pool) })
       alike i j a b c d ei ea ec = λ t. record { index = ei t; poly = decode (ec t) (drop (ea t * termWords) pool) }
+
+-- the terms behind the used ones are the last entry
+pub record Pushed (s : Table) (index terms : ℕ) (r : Table) : Type 0 where
+  pub store : (pool : List ℕ) → storeOf r pool ≡ storeOf s pool ++ (record { index = index; poly = decode terms (drop (s .used * termWords) pool) } ∷ [])
+  pub packed : Packed r
+  pub stored : r .stored ≡ s .stored + 1
+  pub used : r .used ≡ s .used + terms
 
 -- a table whose three columns have each one number more
 pub pushed : (s : Table) (index terms : ℕ) (is ss cs : List ℕ) → Packed s → s .stored < storedPolynomials → terms ≤ fieldTerms

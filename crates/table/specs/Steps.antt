@@ -1,13 +1,11 @@
--- What each function of the table leaves.
+-- What the functions of the table find and leave.
 use mathlib.Core.Path.{_≡_}
 use mathlib.Core.Bool.{Bool, _||_}
-use mathlib.Core.List.{List, [], _∷_, _++_}
-use Prim.Native.Nat.{ℕ, _+_, _-_, _*_, _≤_, _<_}
+use mathlib.Core.List.{List, []}
+use Prim.Native.Nat.{ℕ, _+_, _-_, _≤_, _<_}
 use lib.Dec.{eqb}
-use lib.ListN.{drop, getD, replicate}
-use Rattle.limits.specs.Limits.{storedPolynomials, termWords}
-use Rattle.terms.specs.Terms.{decode}
-use Rattle.paper.specs.Rules.{remove}
+use lib.ListN.{getD, replicate}
+use Rattle.limits.specs.Limits.{storedPolynomials}
 use Rattle.table.specs.declared.Found.{Found}
 use Rattle.table.specs.declared.Found.the-variants.{At, Nothing}
 use Rattle.table.specs.declared.Table.{Table}
@@ -52,17 +50,3 @@ pub record Fresh (r : Table) : Type 0 where
   pub indices : r .indices ≡ replicate storedPolynomials 0
   pub starts : r .starts ≡ replicate storedPolynomials 0
   pub counts : r .counts ≡ replicate storedPolynomials 0
-
--- the terms behind the used ones are the last entry
-pub record Pushed (s : Table) (index terms : ℕ) (r : Table) : Type 0 where
-  pub store : (pool : List ℕ) → storeOf r pool ≡ storeOf s pool ++ (record { index = index; poly = decode terms (drop (s .used * termWords) pool) } ∷ [])
-  pub packed : Packed r
-  pub stored : r .stored ≡ s .stored + 1
-  pub used : r .used ≡ s .used + terms
-
--- the j-th entry, which is the first under its index, is gone from the table and the pool
-pub record Forgotten (s : Table) (pool : List ℕ) (j : ℕ) (r : Table) (left : List ℕ) : Type 0 where
-  pub store : (x : ℕ) → FirstAt (s .indices) (s .stored) x j → storeOf r left ≡ remove (storeOf s pool) x
-  pub packed : Packed r
-  pub stored : r .stored + 1 ≡ s .stored
-  pub used : r .used + getD (s .counts) j 0 ≡ s .used

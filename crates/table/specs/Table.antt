@@ -39,7 +39,7 @@ pub record PackedColumns (starts counts : List ℕ) (stored used : ℕ) : Type 0
 abbrev pub Packed : Table → Type 0
 Packed s = PackedColumns (s .starts) (s .counts) (s .stored) (s .used)
 
--- a pool that holds capacity terms
+-- the table is packed, and its terms fit a pool that holds capacity terms
 pub record Fitting (s : Table) (pool : List ℕ) (capacity : ℕ) : Type 0 where
   pub packed : Packed s
   pub room : s .used ≤ capacity

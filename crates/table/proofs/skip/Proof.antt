@@ -5,8 +5,8 @@ use Prim.Native.Nat.{_≤_, _-_}
 use native.Mathlib.Omega.{arith}
 use borrow.Author.Count.{below-none}
 use borrow.Author.Needs.{needs}
+use Rattle.ground.proofs.Eight.{below-eight}
 use Rattle.table.specs.Steps.{Absent}
-use Rattle.table.proofs.Searching.{absent-eight}
 use Rattle.table.proofs.skip.Statement.{statement}
 use Rattle.table.proofs.skip.Tie as tie
 
@@ -37,7 +37,8 @@ loop-less c = search needs
 loop-again : tie.Need-loop-again Inv-loop μ-loop
 loop-again c =
     let loop = c .before .before .before .loop in
-    (omega arith, absent-eight _ _ _ (loop .inv .1) (sym (c .before .among .ensures) ∙ c .if1 .left))
+    let args = c .before .before .before .before .args in
+    (omega arith, record { nowhere = below-eight _ (args .column .now) (args .x) (λ k n. n) (loop .j) (loop .inv .1 .nowhere) (sym (c .before .among .ensures) ∙ c .if1 .left) })
 
 returns-2 : tie.Need-returns-2 Inv-loop μ-loop
 returns-2 c = search needs

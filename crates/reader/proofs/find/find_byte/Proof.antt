@@ -1,20 +1,16 @@
 -- `reader::find::find_byte` meets its contract. The loop's invariant: none of the bytes from at up to i is b.
 -- The measure is what is left of the length. Assumes nothing.
-use mathlib.Core.Path.{_≡_}
-use mathlib.Core.Bool.{true, not}
-use Prim.Native.Nat.{_≤_, _-_}
+use Prim.Native.Nat.{_-_}
 use native.Mathlib.Omega.{arith}
-use lib.Dec.{eqb}
 use lib.ListN.{length}
 use borrow.Author.Needs.{needs}
-use Rattle.ground.specs.Lists.{every}
-use Rattle.reader.specs.Places.{part}
-use Rattle.reader.proofs.Search.{first-more}
+use Rattle.reader.specs.Search.{Without}
+use Rattle.reader.proofs.Search.{without-one}
 use Rattle.reader.proofs.find.find_byte.Statement.{statement}
 use Rattle.reader.proofs.find.find_byte.Tie as tie
 
 abbrev Inv-loop : tie.InvT-loop
-Inv-loop s at b i₀ i = (at ≤ i) × (i ≤ length s) × (every (λ x. not (eqb x b)) (part s at i) ≡ true)
+Inv-loop s at b i₀ i = Without b s at i
 
 abbrev μ-loop : tie.MeasureT-loop
 μ-loop s at b i₀ i = length s - i
@@ -23,15 +19,13 @@ skip-requires : tie.Need-skip-requires Inv-loop μ-loop
 skip-requires c κs = search needs
 
 loop-holds : tie.Need-loop-holds Inv-loop μ-loop
-loop-holds c = let e = c .skip .ensures in (e .onward, e .inside, e .none)
+loop-holds c = c .skip .ensures
 
 shared-slice-read-if1 : tie.Need-shared-slice-read-if1 Inv-loop μ-loop
 shared-slice-read-if1 c = search needs
 
 returns : tie.Need-returns Inv-loop μ-loop
-returns c =
-    let loop = c .before .before .before .loop in
-    record { onward = omega arith; inside = omega arith; found = λ h. c .if1 .taken; none = loop .inv .2 }
+returns c = record { without = c .before .before .before .loop .inv; found = λ h. c .if1 .taken }
 
 add-i : tie.Need-add-i Inv-loop μ-loop
 add-i c = search needs
@@ -42,13 +36,10 @@ loop-less c = search needs
 loop-again : tie.Need-loop-again Inv-loop μ-loop
 loop-again c =
     let loop = c .before .before .before .loop in
-    let args = c .before .before .before .before .before .before .args in
-    (omega arith, omega arith, first-more (args .b) (args .s .now) (args .at) (loop .i) (omega arith) (omega arith) (c .if1 .left) (loop .inv .2))
+    without-one _ _ _ (loop .i) (omega arith) (c .if1 .left) (loop .inv)
 
 returns-2 : tie.Need-returns-2 Inv-loop μ-loop
-returns-2 c =
-    let loop = c .before .loop in
-    record { onward = omega arith; inside = omega arith; found = λ h. absurd (let z : ⊥ = omega arith in z); none = loop .inv .2 }
+returns-2 c = record { without = c .before .loop .inv; found = λ h. absurd (let z : ⊥ = omega arith in z) }
 
 pub find-byte-spec : {M : Type 1} → statement M
 find-byte-spec =

@@ -1,10 +1,12 @@
 -- `reader::line::scan_ended` meets its contract: the first byte settles the kind, and nothing stands behind its fields. No loop.
 -- Assumes nothing.
+use mathlib.Core.Path.{refl}
 use native.Mathlib.Omega.{arith}
+use Rattle.paper.specs.Grammar.{bytes, kinds, beginsAlike, oneOf}
 use Rattle.reader.specs.Lines.{rings, inputs, goals, lins, dels, exts}
 use Rattle.reader.specs.declared.line.Kind.the-variants.{Ring, Input, Goal, Lin, Del, Ext}
 use Rattle.reader.proofs.Fields.{ring-fields, input-fields, goal-fields, lin-fields, del-fields, ext-fields}
-use Rattle.reader.proofs.LineKinds.{first-ring, first-input, first-goal, first-lin, first-del, first-ext, kind-line, no-line, empty-line}
+use Rattle.reader.proofs.LineKinds.{kind-line, no-line, empty-line}
 use borrow.Author.Needs.{needs}
 use Rattle.reader.proofs.line.scan_ended.Statement.{statement}
 use Rattle.reader.proofs.line.scan_ended.Tie as tie
@@ -52,34 +54,40 @@ closed-requires-6 : tie.Need-closed-requires-6
 closed-requires-6 c κs = search needs
 
 returns-2 : tie.Need-returns-2
+unfolding kinds oneOf beginsAlike bytes
 returns-2 c =
     let s = c .before .before .before .before .before .before .args .s .now in
-    rw (c .closed .ensures) (kind-line s (omega arith) 114 rings Ring first-ring (ring-fields s) (c .before .scan-ring .result) (c .before .before .match .keys1) (c .before .scan-ring .ensures))
+    rw (c .closed .ensures) (kind-line s (omega arith) 114 rings Ring (λ w. refl) (ring-fields s) (c .before .scan-ring .result) (c .before .before .match .keys1) (c .before .scan-ring .ensures))
 
 returns-3 : tie.Need-returns-3
+unfolding kinds oneOf beginsAlike bytes
 returns-3 c =
     let s = c .before .before .before .before .before .before .args .s .now in
-    rw (c .closed2 .ensures) (kind-line s (omega arith) 105 inputs Input first-input (input-fields s) (c .before .scan-in .result) (c .before .before .match .keys2) (c .before .scan-in .ensures))
+    rw (c .closed2 .ensures) (kind-line s (omega arith) 105 inputs Input (λ w. refl) (input-fields s) (c .before .scan-in .result) (c .before .before .match .keys2) (c .before .scan-in .ensures))
 
 returns-4 : tie.Need-returns-4
+unfolding kinds oneOf beginsAlike bytes
 returns-4 c =
     let s = c .before .before .before .before .before .before .args .s .now in
-    rw (c .closed3 .ensures) (kind-line s (omega arith) 103 goals Goal first-goal (goal-fields s) (c .before .scan-goal .result) (c .before .before .match .keys3) (c .before .scan-goal .ensures))
+    rw (c .closed3 .ensures) (kind-line s (omega arith) 103 goals Goal (λ w. refl) (goal-fields s) (c .before .scan-goal .result) (c .before .before .match .keys3) (c .before .scan-goal .ensures))
 
 returns-5 : tie.Need-returns-5
+unfolding kinds oneOf beginsAlike bytes
 returns-5 c =
     let s = c .before .before .before .before .before .before .args .s .now in
-    rw (c .closed4 .ensures) (kind-line s (omega arith) 108 lins Lin first-lin (lin-fields s) (c .before .scan-lin .result) (c .before .before .match .keys4) (c .before .scan-lin .ensures))
+    rw (c .closed4 .ensures) (kind-line s (omega arith) 108 lins Lin (λ w. refl) (lin-fields s) (c .before .scan-lin .result) (c .before .before .match .keys4) (c .before .scan-lin .ensures))
 
 returns-6 : tie.Need-returns-6
+unfolding kinds oneOf beginsAlike bytes
 returns-6 c =
     let s = c .before .before .before .before .before .before .args .s .now in
-    rw (c .closed5 .ensures) (kind-line s (omega arith) 100 dels Del first-del (del-fields s) (c .before .scan-del .result) (c .before .before .match .keys5) (c .before .scan-del .ensures))
+    rw (c .closed5 .ensures) (kind-line s (omega arith) 100 dels Del (λ w. refl) (del-fields s) (c .before .scan-del .result) (c .before .before .match .keys5) (c .before .scan-del .ensures))
 
 returns-7 : tie.Need-returns-7
+unfolding kinds oneOf beginsAlike bytes
 returns-7 c =
     let s = c .before .before .before .before .before .before .args .s .now in
-    rw (c .closed6 .ensures) (kind-line s (omega arith) 101 exts Ext first-ext (ext-fields s) (c .before .scan-ext .result) (c .before .before .match .keys6) (c .before .scan-ext .ensures))
+    rw (c .closed6 .ensures) (kind-line s (omega arith) 101 exts Ext (λ w. refl) (ext-fields s) (c .before .scan-ext .result) (c .before .before .match .keys6) (c .before .scan-ext .ensures))
 
 returns-8 : tie.Need-returns-8
 returns-8 c =

@@ -1,8 +1,8 @@
 -- `reader::line::scan_ext` meets its contract: a keyword, an index, a variable and a polynomial in a row. No loop.
 -- Assumes nothing.
-use Rattle.paper.specs.Grammar.{bytes}
-use Rattle.reader.proofs.Scans.{scanned, pass-on}
-use Rattle.reader.proofs.LineKinds.{ext-fails-variable, ext-fails-field, ext-fails, ext-scans}
+use Rattle.paper.specs.Grammar.{bytes, number, field}
+use Rattle.reader.proofs.Scans.{fails-then, fails-first, scanned, pass-on}
+use Rattle.reader.proofs.LineKinds.{indexed-fails, indexed-fails-then, ext-scans}
 use borrow.Author.Needs.{needs}
 use Rattle.reader.proofs.line.scan_ext.Statement.{statement}
 use Rattle.reader.proofs.line.scan_ext.Tie as tie
@@ -21,7 +21,7 @@ enum-told c = search needs
 
 returns : tie.Need-returns
 unfolding bytes
-returns c = pass-on (c .before .before .indexed .ensures) (c .enum-told .given .1) ext-fails
+returns c = pass-on (c .before .before .indexed .ensures) (c .enum-told .given .1) (λ f. indexed-fails (bytes "ext") _ f)
 
 sub-tab-number : tie.Need-sub-tab-number
 sub-tab-number c = search needs
@@ -39,7 +39,7 @@ returns-2 : tie.Need-returns-2
 unfolding bytes
 returns-2 c =
     let i = scanned (c .before .before .before .before .before .before .indexed .ensures) (c .before .before .before .before .i .given .1) in
-    pass-on (c .before .before .tab-number .ensures) (c .enum-told2 .given .1) (λ f. ext-fails-variable (i .taken) f)
+    pass-on (c .before .before .tab-number .ensures) (c .enum-told2 .given .1) (λ f. indexed-fails-then (bytes "ext") _ (i .taken) (fails-first number _ f))
 
 tab-field-requires : tie.Need-tab-field-requires
 tab-field-requires c κs = scanned (c .before .before .before .tab-number .ensures) (c .before .v .given .1) .taken .inside
@@ -55,7 +55,7 @@ unfolding bytes
 returns-3 c =
     let i = scanned (c .before .before .before .before .before .before .before .before .before .before .indexed .ensures) (c .before .before .before .before .before .before .before .before .i .given .1) in
     let v = scanned (c .before .before .before .before .before .before .tab-number .ensures) (c .before .before .before .before .v .given .1) in
-    pass-on (c .before .before .tab-field .ensures) (c .enum-told3 .given .1) (λ f. ext-fails-field (i .taken) (v .taken) f)
+    pass-on (c .before .before .tab-field .ensures) (c .enum-told3 .given .1) (λ f. indexed-fails-then (bytes "ext") _ (i .taken) (fails-then number _ (v .taken) (fails-first field _ f)))
 
 both-requires : tie.Need-both-requires
 both-requires c κs = search needs

@@ -1,8 +1,8 @@
 -- `reader::line::scan_in` meets its contract: a keyword, an index and a polynomial in a row. No loop.
 -- Assumes nothing.
-use Rattle.paper.specs.Grammar.{bytes}
-use Rattle.reader.proofs.Scans.{scanned, pass-on}
-use Rattle.reader.proofs.LineKinds.{input-fails-field, input-fails, input-scans}
+use Rattle.paper.specs.Grammar.{bytes, field}
+use Rattle.reader.proofs.Scans.{fails-first, scanned, pass-on}
+use Rattle.reader.proofs.LineKinds.{indexed-fails, indexed-fails-then, input-scans}
 use borrow.Author.Needs.{needs}
 use Rattle.reader.proofs.line.scan_in.Statement.{statement}
 use Rattle.reader.proofs.line.scan_in.Tie as tie
@@ -21,7 +21,7 @@ enum-told c = search needs
 
 returns : tie.Need-returns
 unfolding bytes
-returns c = pass-on (c .before .before .indexed .ensures) (c .enum-told .given .1) input-fails
+returns c = pass-on (c .before .before .indexed .ensures) (c .enum-told .given .1) (λ f. indexed-fails (bytes "in") _ f)
 
 tab-field-requires : tie.Need-tab-field-requires
 tab-field-requires c κs = scanned (c .before .before .before .indexed .ensures) (c .before .i .given .1) .taken .inside
@@ -36,7 +36,7 @@ returns-2 : tie.Need-returns-2
 unfolding bytes
 returns-2 c =
     let i = scanned (c .before .before .before .before .before .before .indexed .ensures) (c .before .before .before .before .i .given .1) in
-    pass-on (c .before .before .tab-field .ensures) (c .enum-told2 .given .1) (λ f. input-fails-field (i .taken) f)
+    pass-on (c .before .before .tab-field .ensures) (c .enum-told2 .given .1) (λ f. indexed-fails-then (bytes "in") _ (i .taken) (fails-first field _ f))
 
 both-requires : tie.Need-both-requires
 both-requires c κs = search needs

@@ -1,8 +1,8 @@
 -- `reader::line::scan_lin` meets its contract: a keyword, an index, a polynomial and pairs in a row. No loop.
 -- Assumes nothing.
-use Rattle.paper.specs.Grammar.{bytes}
-use Rattle.reader.proofs.Scans.{scanned, pass-on}
-use Rattle.reader.proofs.LineKinds.{lin-fails-field, lin-fails-pairs, lin-fails, lin-scans}
+use Rattle.paper.specs.Grammar.{bytes, field}
+use Rattle.reader.proofs.Scans.{fails-first, scanned, pass-on}
+use Rattle.reader.proofs.LineKinds.{indexed-fails, indexed-fails-then, lin-fails-pairs, lin-scans}
 use borrow.Author.Needs.{needs}
 use Rattle.reader.proofs.line.scan_lin.Statement.{statement}
 use Rattle.reader.proofs.line.scan_lin.Tie as tie
@@ -21,7 +21,7 @@ enum-told c = search needs
 
 returns : tie.Need-returns
 unfolding bytes
-returns c = pass-on (c .before .before .indexed .ensures) (c .enum-told .given .1) lin-fails
+returns c = pass-on (c .before .before .indexed .ensures) (c .enum-told .given .1) (λ f. indexed-fails (bytes "lin") _ f)
 
 tab-field-requires : tie.Need-tab-field-requires
 tab-field-requires c κs = scanned (c .before .before .before .indexed .ensures) (c .before .i .given .1) .taken .inside
@@ -36,7 +36,7 @@ returns-2 : tie.Need-returns-2
 unfolding bytes
 returns-2 c =
     let i = scanned (c .before .before .before .before .before .before .indexed .ensures) (c .before .before .before .before .i .given .1) in
-    pass-on (c .before .before .tab-field .ensures) (c .enum-told2 .given .1) (λ f. lin-fails-field (i .taken) f)
+    pass-on (c .before .before .tab-field .ensures) (c .enum-told2 .given .1) (λ f. indexed-fails-then (bytes "lin") _ (i .taken) (fails-first field _ f))
 
 tab-pairs-requires : tie.Need-tab-pairs-requires
 tab-pairs-requires c κs = scanned (c .before .before .before .tab-field .ensures) (c .before .p .given .1) .taken .inside
