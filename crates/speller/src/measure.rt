@@ -6,7 +6,7 @@ ghost use lib.ListN.{length};
 ghost use Rattle.ground.specs.Lists.{gather};
 ghost use Rattle.limits.specs.Limits.{variables, termWords, fieldTerms};
 ghost use Rattle.algebra.specs.Polynomial.{members};
-ghost use Rattle.words.specs.Words.{number, Lowest};
+ghost use Rattle.words.specs.Words.{number};
 ghost use Rattle.terms.specs.Terms.{termOf, decode};
 ghost use Rattle.paper.specs.Spelling.{spellNumber, spellCoefficient, spellTerm, spell};
 ghost use Rattle.speller.specs.Writing.{dotted, Cut, room};
@@ -39,14 +39,6 @@ pub(crate) fn number_length(n: u64) -> usize
     digits
 }
 
-// The variable of a word that is written first: its lowest.
-pub(crate) fn next_variable(w: u64) -> u64
-    requires { ⌜ 0 < w ⌝ }
-    ensures { λ r. ⌜ Lowest 64 w r ⌝ }
-{
-    words::lowest(w) as u64
-}
-
 // The variables of one word of a set, whose lowest digit is variable first.
 fn word_length(w: u64, first: u64) -> usize
     requires { ⌜ first + 64 ≤ variables ⌝ }
@@ -55,7 +47,7 @@ fn word_length(w: u64, first: u64) -> usize
     let mut sum = 0;
     let mut left = w;
     while 0 < left {
-        let v = next_variable(left);
+        let v = words::lowest(left) as u64;
         left = words::without_lowest(left);
         sum += 1 + number_length(first + v);
     }

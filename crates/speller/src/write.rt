@@ -8,7 +8,6 @@ ghost use Rattle.words.specs.Words.{number};
 ghost use Rattle.terms.specs.Terms.{termOf, decode};
 ghost use Rattle.paper.specs.Spelling.{spellNumber, spellCoefficient, spellTerm, spell};
 ghost use Rattle.speller.specs.Writing.{Wrote, dotted, spaced, Cut};
-use super::measure::next_variable;
 use super::measure::number_length;
 use super::sign::with_sign;
 use terms::Term;
@@ -48,7 +47,7 @@ fn write_word(out: &mut [u8], at: usize, w: u64, first: u64) -> usize
     let mut i = at;
     let mut left = w;
     while 0 < left {
-        let v = next_variable(left);
+        let v = words::lowest(left) as u64;
         left = words::without_lowest(left);
         i = write_variable(out, i, first + v);
     }
