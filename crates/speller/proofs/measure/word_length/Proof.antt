@@ -9,7 +9,8 @@ use lib.Pow.{pow-pos}
 use Rattle.ground.specs.Lists.{gather}
 use Rattle.algebra.specs.Polynomial.{members}
 use Rattle.speller.specs.Writing.{dotted}
-use Rattle.speller.proofs.Pieces.{word-length-more, word-end, word-most, word-digits}
+use Rattle.speller.proofs.Digits.{word-digits}
+use Rattle.speller.proofs.Pieces.{word-length-more, word-end, word-most}
 use Rattle.speller.proofs.measure.word_length.Statement.{statement}
 use Rattle.speller.proofs.measure.word_length.Tie as tie
 
