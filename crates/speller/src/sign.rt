@@ -1,4 +1,4 @@
-// A coefficient as it is written.
+// The sign and the magnitude that a coefficient is written with.
 ghost use mathlib.Core.Path.{_≡_};
 ghost use Prim.Native.Nat.{_^_, _≤_, _<_};
 ghost use Rattle.paper.specs.Spelling.{spellCoefficient};
