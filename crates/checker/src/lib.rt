@@ -16,8 +16,8 @@ fn capacity(words: usize) -> usize
     ensures { λ r. ⌜ r ≡ paper.capacityOf words ⌝ }
 {
     let terms = words / limits::TERM_WORDS;
-    if limits::POOL_TERMS < terms {
-        return limits::POOL_TERMS;
+    if limits::MOST_POOL_TERMS < terms {
+        return limits::MOST_POOL_TERMS;
     }
     terms
 }

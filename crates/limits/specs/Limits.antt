@@ -2,14 +2,14 @@
 use Prim.Native.Nat.{ℕ}
 
 -- ---- what a number may be
-abbrev pub variables : ℕ
-variables = 256
-
 abbrev pub greatestRing : ℕ
 greatestRing = 64
 
 abbrev pub greatestIndex : ℕ
 greatestIndex = 4294967295
+
+abbrev pub variables : ℕ
+variables = 256
 
 abbrev pub greatestMagnitude : ℕ
 greatestMagnitude = 18446744073709551615

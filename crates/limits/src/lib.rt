@@ -1,11 +1,11 @@
-// The paper's numbers as the code has them; specs/Limits.antt and specs/Verdicts.antt have their meaning.
+// The paper's numbers as the code has them; specs/Limits.antt and specs/Verdicts.antt define them.
 
 // ---- what a number may be
-pub const VARIABLES: u64 = 256;
-
 pub const GREATEST_RING: u64 = 64;
 
 pub const GREATEST_INDEX: u64 = 4294967295;
+
+pub const VARIABLES: u64 = 256;
 
 pub const GREATEST_MAGNITUDE: u64 = 18446744073709551615;
 
@@ -27,7 +27,7 @@ pub const TERM_WORDS: usize = 5;
 
 pub const LEAST_POOL: usize = 480;
 
-pub const POOL_TERMS: usize = 65536;
+pub const MOST_POOL_TERMS: usize = 65536;
 
 pub const LEAST_SCRATCH: usize = 6560;
 

@@ -10,12 +10,12 @@ use reader::number::Decimal;
 use reader::number::decimal_at;
 
 // A k and the place of the field, or a line of another shape.
-pub enum Asked {
+enum Asked {
     Field(u64, usize),
     Shapeless,
 }
 
-// What k asks for with the tab at at.
+// The field behind the tab that stands at the place at, to be spelled at k.
 fn behind_tab(line: &[u8], k: u64, at: usize) -> Asked
     requires { ⌜ at ≤ length (now line) ⌝ }
     ensures { λ r. ⌜ r ≡ behindTab (now (line .entry)) k at ⌝ }
@@ -76,13 +76,14 @@ fn answer_lines(text: &[u8], scratch: &mut [u64], out: &mut [u8]) {
 }
 
 fn main() {
-    let mut text = [0u8; 65537];
+    let mut text = [0u8; limits::HOST_TEXT_BYTES + 1];
     let n = io::read_full(STDIN_FILENO, &mut text);
     if limits::HOST_TEXT_BYTES < n {
         say(limits::LONGTEXT, b"");
         return;
     }
-    let mut scratch = [0u64; 480];
-    let mut out = [0u8; 16384];
+    let mut scratch = [0u64; limits::LEAST_SPELLING_SCRATCH];
+    // A spelling is longer than its field by a sign for each term at most, so that FULL does not come up.
+    let mut out = [0u8; 2 * limits::LINE_BYTES];
     answer_lines(&text[..n], &mut scratch, &mut out);
 }

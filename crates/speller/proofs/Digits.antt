@@ -13,6 +13,9 @@ use Rattle.paper.proofs.Numbers.{number-some, number-small, number-more, number
 use Rattle.speller.specs.Writing.{written}
 use Rattle.speller.proofs.Written.{written-byte, written-later}
 
+pub word-digits : (n : ℕ) → n < 2 ^ 64 → length (spellNumber n) ≤ 20
+word-digits n h = number-most 19 n (omega arith)
+
 -- ---- how many there are: limit is 10 ^ digits, and there are as many digits at least
 pub record Counting (n digits limit : ℕ) : Type 0 where
   pub power : limit ≡ 10 ^ digits
@@ -25,7 +28,7 @@ counting-start n = record { power = refl; some = omega arith; few = omega arith;
 
 module _ (n digits limit : ℕ) (h : Counting n digits limit) where
   pub counting-last : n < 2 ^ 64 → limit ≤ n → digits + 1 ≡ 20 → digits + 1 ≡ length (spellNumber n)
-  counting-last f l e = omega (arith, number-most 19 n (omega arith), number-least digits n (rw (h .power) at l))
+  counting-last f l e = omega (arith, word-digits n f, number-least digits n (rw (h .power) at l))
 
   pub counting-fits : digits + 1 < 20 → limit * 10 < 2 ^ 64
   counting-fits l = omega (arith, h .power, pow-le-pow-right {n = 10} (omega arith) {i = digits} {j = 18} (omega arith))

@@ -6,7 +6,7 @@ use Prim.Native.Nat.{ℕ, _≤_, _<_}
 use native.Mathlib.Omega.{arith}
 use lib.Dec.{eqb, leb, ltb}
 use lib.ListN.{length, drop, length-drop, drop-of-length-le}
-use borrow.Author.Tests.{le-leb, lt-leb, leb-true, not-true, not-false}
+use borrow.Author.Tests.{leb-true, not-true, not-false}
 use Rattle.ground.proofs.Tests.{by-cond, and-left, and-right, and-both}
 use Rattle.limits.specs.Limits.{greatestRing}
 use Rattle.limits.specs.Verdicts.{ACCEPTED, SHORT, FORM, NUMBER, TERMS, FULL}
@@ -17,11 +17,33 @@ use Rattle.paper.specs.Spelling.{Spelled, refuse, spell, spellingRules, spellRe
 use Rattle.paper.proofs.ReadBack.{whole-end}
 use Rattle.reader.specs.Places.{Fails}
 use Rattle.reader.specs.Fields.{fewTerms, Scanned}
+use Rattle.reader.proofs.Numbers.{within-yes, within-below, within-above}
 use Rattle.fields.specs.Fields.{isField}
 use Rattle.speller.specs.Spells.{fitted, Accepts, Judged}
 
--- ---- the whole field
+-- ---- k
+module _ (k : ℕ) where
+  pub ring-low : k ≡ 0 → isRing k ≡ false
+  unfolding isRing
+  ring-low h = within-below 1 greatestRing k (omega arith)
 
+  pub ring-high : greatestRing < k → isRing k ≡ false
+  unfolding isRing
+  ring-high h = within-above 1 greatestRing k h
+
+  pub ring-inside : 1 ≤ k → k ≤ greatestRing → isRing k ≡ true
+  unfolding isRing
+  ring-inside h l = within-yes 1 greatestRing k h l
+
+  pub ring-some : isRing k ≡ true → 1 ≤ k
+  unfolding isRing
+  ring-some e = leb-true 1 k (and-left (leb 1 k) (leb k greatestRing) e)
+
+  pub ring-most : isRing k ≡ true → k ≤ greatestRing
+  unfolding isRing
+  ring-most e = leb-true k greatestRing (and-right (leb 1 k) (leb k greatestRing) e)
+
+-- ---- the whole field
 whole-stuck : (s t : Bytes) → polynomial s ≡ stuck t → wholeField s ≡ stuck t
 unfolding wholeField
 whole-stuck s t e = ap (λ (r : Read Written). next r (λ p s. next (end s) (λ _ r. got p r))) e
@@ -61,18 +83,6 @@ module _ (field : Bytes) (k : ℕ) where
   pub judged-stuck : {p : ℕ} → Fails polynomial field 0 p → Judged field k FORM
   unfolding spellRead
   judged-stuck {p} h = judged-refused field k FORM (omega arith) (λ room. ap (spellRead k room) (whole-stuck field (drop p field) (h .reads)))
-
-  pub ring-low : k ≡ 0 → isRing k ≡ false
-  unfolding isRing
-  ring-low h = rw h
-
-  pub ring-high : greatestRing < k → isRing k ≡ false
-  unfolding isRing
-  ring-high h = rw (lt-leb k 64 h) (and-false (leb 1 k))
-
-  pub ring-inside : 1 ≤ k → k ≤ greatestRing → isRing k ≡ true
-  unfolding isRing
-  ring-inside h l = rw (le-leb 1 k h, le-leb k 64 l)
 
   module _ {e : ℕ} {a b : Bool} (s : Scanned polynomial inRange fewTerms field 0 e a b) where
     pub judged-some : (e ≡ length field → ⊥) → Judged field k FORM
@@ -119,14 +129,6 @@ module _ (field : Bytes) (k : ℕ) where
         }
 
 -- ---- an accepted field
-pub ring-some : (k : ℕ) → isRing k ≡ true → 1 ≤ k
-unfolding isRing
-ring-some k e = leb-true 1 k (and-left (leb 1 k) (leb k 64) e)
-
-pub ring-most : (k : ℕ) → isRing k ≡ true → k ≤ 64
-unfolding isRing
-ring-most k e = leb-true k 64 (and-right (leb 1 k) (leb k 64) e)
-
 pub field-range : (p : Written) → isField p ≡ true → inRange p ≡ true
 unfolding isField
 field-range p e = and-left (inRange p) (fewTerms p) e

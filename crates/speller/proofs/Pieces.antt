@@ -1,4 +1,4 @@
--- The spelling of variables, of a coefficient and of a term, piece by piece, and how long it is at most. Assumes nothing.
+-- The spelling of the variables of a set, word by word, and how long it is at most. Assumes nothing.
 use mathlib.Core.Path.{_≡_, refl, sym, ap, _∙_}
 use mathlib.Core.List.{List, [], _∷_, _++_, append-assoc}
 use Prim.Native.Nat.{ℕ, zero, suc, _+_, _-_, _*_, _/_, _%_, _^_, _≤_, _<_}
@@ -16,7 +16,7 @@ use Rattle.paper.specs.Spelling.{spellNumber}
 use Rattle.paper.proofs.Numbers.{number-most}
 use Rattle.speller.specs.Writing.{dotted}
 
-pub gather-append : {A B : Type 0} (f : A → List B) (xs ys : List A) → gather f (xs ++ ys) ≡ gather f xs ++ gather f ys
+gather-append : {A B : Type 0} (f : A → List B) (xs ys : List A) → gather f (xs ++ ys) ≡ gather f xs ++ gather f ys
 unfolding gather
 gather-append f [] ys = refl
 gather-append f (x ∷ xs) ys = ap (λ (zs : List _). f x ++ zs) (gather-append f xs ys) ∙ sym (append-assoc (f x) (gather f xs) (gather f ys))
@@ -53,7 +53,7 @@ variables-most (suc n) v m h =
     by-cond (λ (l : List ℕ). length (gather dotted l) ≤ 4 * length l) (eqb (m % 2) 1)
     (λ e. omega (arith, length-append (spellNumber v) (gather dotted (members n (suc v) (m / 2))), number-most 2 v (omega arith))) (λ e. ih)
 
-pub word-most : (first w : ℕ) → first + 64 ≤ variables → length (gather dotted (members 64 first w)) ≤ 256
+pub word-most : (first w : ℕ) → first + 64 ≤ variables → length (gather dotted (members 64 first w)) ≤ 4 * 64
 word-most first w h = omega (arith, variables-most 64 first w (omega arith), members-few 64 first w)
 
 -- ---- the variables of the words from i on
@@ -76,8 +76,5 @@ pub set-end : (a : List ℕ) (i : ℕ) → length a ≤ i → setRest a i ≡ []
 unfolding gather members
 set-end a i h = let e : 64 * (length a - i) ≡ 0 = omega arith in rw e
 
-pub set-most : (m : ℕ) → length (gather dotted (members variables 0 m)) ≤ 1024
+pub set-most : (m : ℕ) → length (gather dotted (members variables 0 m)) ≤ 4 * variables
 set-most m = omega (arith, variables-most variables 0 m (omega arith), members-few variables 0 m)
-
-pub word-digits : (n : ℕ) → n < 2 ^ 64 → length (spellNumber n) ≤ 20
-word-digits n h = number-most 19 n (omega arith)

@@ -1,4 +1,4 @@
--- The spelling of a run, term by term, and how long it is at most. Assumes nothing.
+-- The spelling of a run, term by term, and of a term; how long they are at most. Assumes nothing.
 use mathlib.Core.Path.{_≡_, refl, sym, ap, ap₂, _∙_, subst}
 use mathlib.Core.List.{List, [], _∷_, _++_}
 use Prim.Native.Nat.{ℕ, suc, _+_, _-_, _*_, _^_, _≤_, _<_}
@@ -109,15 +109,18 @@ run-most k (t ∷ p) h f =
     omega (arith, term-most k t h (f .at 0 (omega arith)), rest-most k p h (cut-rest k t p f), length-append (spellTerm k t) (gather (spaced k) p))
 
 -- ---- the room
-pub term-room-most : (t : Term) → termRoom t ≤ 1046
+abbrev mostRoom : ℕ
+mostRoom = 22 + 4 * variables
+
+pub term-room-most : (t : Term) → termRoom t ≤ mostRoom
 term-room-most t = omega (arith, members-few variables 0 (t .set))
 
-pub total-most : (p : Poly) → total termRoom p ≤ 1046 * length p
+total-most : (p : Poly) → total termRoom p ≤ mostRoom * length p
 unfolding total
 total-most [] = omega arith
 total-most (t ∷ p) = omega (arith, total-most p, members-few variables 0 (t .set))
 
-pub room-most : (n : ℕ) (s : List ℕ) → room (decode n s) ≤ 1 + 1046 * n
+pub room-most : (n : ℕ) (s : List ℕ) → room (decode n s) ≤ 1 + mostRoom * n
 unfolding room
 room-most n s = omega (arith, total-most (decode n s), decode-length n s)
 

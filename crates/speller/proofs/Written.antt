@@ -10,17 +10,17 @@ use lib.Seq.{length-take-le, take-at, drop-at, take-take, take-append-le, drop-d
 use Rattle.paper.specs.Grammar.{Bytes}
 use Rattle.speller.specs.Writing.{written, Wrote}
 
-pub written-none : (d : Bytes) (at : ℕ) → written d at [] ≡ d
+written-none : (d : Bytes) (at : ℕ) → written d at [] ≡ d
 unfolding written
 written-none d at = rw (add-zero at) (take-append-drop at d)
 
-pub length-written : (d : Bytes) (at : ℕ) (w : Bytes) → at + length w ≤ length d → length (written d at w) ≡ length d
+length-written : (d : Bytes) (at : ℕ) (w : Bytes) → at + length w ≤ length d → length (written d at w) ≡ length d
 unfolding written
 length-written d at w h =
     simp (length-append, length-drop) (omega (arith, length-take-le at d (omega arith)))
 
 -- one behind the other
-pub written-both : (d : Bytes) (at : ℕ) (u w : Bytes) → at ≤ length d → written (written d at u) (at + length u) w ≡ written d at (u ++ w)
+written-both : (d : Bytes) (at : ℕ) (u w : Bytes) → at ≤ length d → written (written d at u) (at + length u) w ≡ written d at (u ++ w)
 unfolding written
 written-both d at u w h =
     ap₂ (λ (x y : Bytes). x ++ (w ++ y)) front back
@@ -45,6 +45,26 @@ written-both d at u w h =
         ∙ ap (drop (length w)) (ap (drop (at + length u)) joined ∙ drop-at (take at d ++ u) rest (at + length u) long)
         ∙ drop-drop (length w) (at + length u) d
         ∙ ap (λ (n : ℕ). drop n d) (add-assoc at (length u) (length w) ∙ ap (λ (n : ℕ). at + n) (sym (length-append u w)))
+
+-- what comes later, written first
+pub written-later : (d : Bytes) (at : ℕ) (u w : Bytes) → at + length u ≤ length d → written (written d (at + length u) w) at u ≡ written d at (u ++ w)
+unfolding written
+written-later d at u w h =
+    ap₂ (λ (x y : Bytes). x ++ (u ++ y)) front back
+    ∙ ap (λ (x : Bytes). take at d ++ x) (sym (append-assoc u w (drop (at + length (u ++ w)) d)))
+  where
+    rest : Bytes
+    rest = w ++ drop (at + length u + length w) d
+
+    long : length (take (at + length u) d) ≡ at + length u
+    long = length-take-le (at + length u) d h
+
+    front : take at (take (at + length u) d ++ rest) ≡ take at d
+    front = take-append-le at (take (at + length u) d) rest (omega (arith, long)) ∙ take-take at (at + length u) d (omega arith)
+
+    back : drop (at + length u) (take (at + length u) d ++ rest) ≡ w ++ drop (at + length (u ++ w)) d
+    back = drop-at (take (at + length u) d) rest (at + length u) long
+        ∙ ap (λ (n : ℕ). w ++ drop n d) (add-assoc at (length u) (length w) ∙ ap (λ (n : ℕ). at + n) (sym (length-append u w)))
 
 pub written-byte : (d : Bytes) (at b : ℕ) → at < length d → set d at b ≡ written d at (b ∷ [])
 unfolding written
@@ -86,33 +106,13 @@ left-more {d} {start} {w} {e} {at} {rest} {u} {rest′} {f} {r} h s l p = record
     long : length rest ≡ length u + length rest′
     long = ap length s ∙ length-append u rest′
 
+-- there is room for the next piece
+pub left-room : {d : Bytes} {start : ℕ} {w e : Bytes} {at : ℕ} {rest : Bytes} (u rest′ : Bytes) → start + length w ≤ length d
+    → rest ≡ u ++ rest′ → Left d start w e at rest → at + length u ≤ length e
+left-room u rest′ h s l = omega (arith, l .next, l .same, ap length s ∙ length-append u rest′)
+
 pub left-end : {d : Bytes} {start : ℕ} {w e : Bytes} {at : ℕ} {rest : Bytes} → rest ≡ [] → Left d start w e at rest → Wrote d start w e at
 left-end {d} {start} {w} {e} {at} {rest} s l = record {
   bytes = sym (written-none e at) ∙ ap (written e at) (sym s) ∙ l .bytes;
   next = omega (arith, l .next, ap length s);
 }
-
--- what comes later, written first
-pub written-later : (d : Bytes) (at : ℕ) (u w : Bytes) → at + length u ≤ length d → written (written d (at + length u) w) at u ≡ written d at (u ++ w)
-unfolding written
-written-later d at u w h =
-    ap₂ (λ (x y : Bytes). x ++ (u ++ y)) front back
-    ∙ ap (λ (x : Bytes). take at d ++ x) (sym (append-assoc u w (drop (at + length (u ++ w)) d)))
-  where
-    rest : Bytes
-    rest = w ++ drop (at + length u + length w) d
-
-    long : length (take (at + length u) d) ≡ at + length u
-    long = length-take-le (at + length u) d h
-
-    front : take at (take (at + length u) d ++ rest) ≡ take at d
-    front = take-append-le at (take (at + length u) d) rest (omega (arith, long)) ∙ take-take at (at + length u) d (omega arith)
-
-    back : drop (at + length u) (take (at + length u) d ++ rest) ≡ w ++ drop (at + length (u ++ w)) d
-    back = drop-at (take (at + length u) d) rest (at + length u) long
-        ∙ ap (λ (n : ℕ). w ++ drop n d) (add-assoc at (length u) (length w) ∙ ap (λ (n : ℕ). at + n) (sym (length-append u w)))
-
--- there is room for the next piece
-pub left-room : {d : Bytes} {start : ℕ} {w e : Bytes} {at : ℕ} {rest : Bytes} (u rest′ : Bytes) → start + length w ≤ length d
-    → rest ≡ u ++ rest′ → Left d start w e at rest → at + length u ≤ length e
-left-room u rest′ h s l = omega (arith, l .next, l .same, ap length s ∙ length-append u rest′)

@@ -35,7 +35,7 @@ Decided = (field : Bytes) (k : ℕ) (scratch : List ℕ) (out : Bytes) (r q : An
 unfoldable pub fitted : Bytes → ℕ → Spelled
 fitted w room = cond (ltb room (length w)) (refuse FULL) (record { verdict = ACCEPTED; spelling = w })
 
--- a whole field in range, and a k in range
+-- a whole field in range and of few enough terms, and a k in range
 pub record Accepts (field : Bytes) (k : ℕ) : Type 0 where
   pub value : Written
   pub reads : polynomial field ≡ got value []

@@ -6,7 +6,7 @@ ghost use lib.ListN.{length};
 ghost use Rattle.ground.specs.Lists.{gather};
 ghost use Rattle.limits.specs.Limits.{variables, termWords, fieldTerms};
 ghost use Rattle.algebra.specs.Polynomial.{members};
-ghost use Rattle.words.specs.Words.{number, Lowest};
+ghost use Rattle.words.specs.Words.{number};
 ghost use Rattle.terms.specs.Terms.{termOf, decode};
 ghost use Rattle.paper.specs.Spelling.{spellNumber, spellCoefficient, spellTerm, spell};
 ghost use Rattle.speller.specs.Writing.{dotted, Cut, room};
@@ -23,7 +23,7 @@ const VARIABLE_ROOM: usize = 4;
 // The bytes of a term without variables, with its sign and its space, at most.
 const TERM_ROOM: usize = 22;
 
-// The decimal of a number.
+// The bytes of a number's decimal.
 pub(crate) fn number_length(n: u64) -> usize
     ensures { λ r. ⌜ r ≡ length (spellNumber n) ⌝ }
 {
@@ -31,6 +31,7 @@ pub(crate) fn number_length(n: u64) -> usize
     let mut limit: u64 = 10;
     while limit <= n {
         digits += 1;
+        // The next limit is beyond a word.
         if digits == WORD_DIGITS {
             return digits;
         }
@@ -39,15 +40,7 @@ pub(crate) fn number_length(n: u64) -> usize
     digits
 }
 
-// The variable of a word that is written first: its lowest.
-pub(crate) fn next_variable(w: u64) -> u64
-    requires { ⌜ 0 < w ⌝ }
-    ensures { λ r. ⌜ Lowest 64 w r ⌝ }
-{
-    words::lowest(w) as u64
-}
-
-// The variables of one word of a set, whose lowest digit is variable first.
+// The bytes of the variables of one word of a set, whose lowest digit is variable first.
 fn word_length(w: u64, first: u64) -> usize
     requires { ⌜ first + 64 ≤ variables ⌝ }
     ensures { λ r. ⌜ r ≡ length (gather dotted (members 64 first w)) ⌝ }
@@ -55,14 +48,14 @@ fn word_length(w: u64, first: u64) -> usize
     let mut sum = 0;
     let mut left = w;
     while 0 < left {
-        let v = next_variable(left);
+        let v = words::lowest(left) as u64;
         left = words::without_lowest(left);
         sum += 1 + number_length(first + v);
     }
     sum
 }
 
-// The variables of a set.
+// The bytes of a set's variables.
 fn set_length(a: Set) -> usize
     ensures { λ r. ⌜ r ≡ length (gather dotted (members variables 0 (number a))) ⌝ }
 {
@@ -75,7 +68,7 @@ fn set_length(a: Set) -> usize
     sum
 }
 
-// A coefficient at k.
+// The bytes of a coefficient at k.
 fn coefficient_length(c: u64, k: u32) -> usize
     requires { ⌜ (1 ≤ k) × (k ≤ 64) × (c < 2 ^ k) ⌝ }
     ensures { λ r. ⌜ r ≡ length (spellCoefficient k c) ⌝ }
@@ -88,7 +81,7 @@ fn coefficient_length(c: u64, k: u32) -> usize
     digits
 }
 
-// A term at k.
+// The bytes of a term at k.
 fn term_length(t: Term, k: u32) -> usize
     requires { ⌜ (1 ≤ k) × (k ≤ 64) × (termOf t .coef < 2 ^ k) ⌝ }
     ensures { λ r. ⌜ r ≡ length (spellTerm k (termOf t)) ⌝ }
@@ -96,7 +89,7 @@ fn term_length(t: Term, k: u32) -> usize
     coefficient_length(t[limits::SET_WORDS], k) + set_length(terms::set_of(t))
 }
 
-// A run of n terms at k.
+// The bytes of a run of n terms at k.
 fn run_length(s: &[u64], n: usize, k: u32) -> usize
     requires { ⌜ (1 ≤ k) × (k ≤ 64) × (n ≤ fieldTerms) × (n * termWords ≤ length (now s)) × Cut k (decode n (now s)) ⌝ }
     ensures { λ r. ⌜ r ≡ length (spell k (decode n (now (s .entry)))) ⌝ }

@@ -1,12 +1,12 @@
-// A coefficient as it is written.
+// The sign and the magnitude that a coefficient is written with.
 ghost use mathlib.Core.Path.{_≡_};
 ghost use Prim.Native.Nat.{_^_, _≤_, _<_};
 ghost use Rattle.paper.specs.Spelling.{spellCoefficient};
 ghost use Rattle.speller.specs.Writing.{spellSigned};
 
-pub struct Signed {
-    pub minus: bool,
-    pub magnitude: u64,
+pub(crate) struct Signed {
+    pub(crate) minus: bool,
+    pub(crate) magnitude: u64,
 }
 
 // The coefficient c at k: c where it is at most half of 2 ^ k, else minus what is left to 2 ^ k.

@@ -1,4 +1,4 @@
-// Spellings, written into a lent output from a place on; each gives the place after it.
+// Pieces of a spelling, written into a lent output from a place on; each function gives the place after what it wrote.
 ghost use Prim.Native.Nat.{_+_, _*_, _^_, _≤_, _<_};
 ghost use lib.ListN.{length, drop};
 ghost use Rattle.ground.specs.Lists.{gather};
@@ -8,13 +8,12 @@ ghost use Rattle.words.specs.Words.{number};
 ghost use Rattle.terms.specs.Terms.{termOf, decode};
 ghost use Rattle.paper.specs.Spelling.{spellNumber, spellCoefficient, spellTerm, spell};
 ghost use Rattle.speller.specs.Writing.{Wrote, dotted, spaced, Cut};
-use super::measure::next_variable;
 use super::measure::number_length;
 use super::sign::with_sign;
 use terms::Term;
 use words::Set;
 
-// The decimal of a number. Its digits go in from the last to the first.
+// Writes the decimal of a number, its digits from the last to the first.
 pub(crate) fn write_number(out: &mut [u8], at: usize, n: u64) -> usize
     requires { ⌜ at + length (spellNumber n) ≤ length (now out) ⌝ }
     ensures { λ r. ⌜ Wrote (now (out .entry)) at (spellNumber n) (now (out .exit)) r ⌝ }
@@ -31,7 +30,7 @@ pub(crate) fn write_number(out: &mut [u8], at: usize, n: u64) -> usize
     end
 }
 
-// A variable with its dot.
+// Writes a variable with its dot.
 fn write_variable(out: &mut [u8], at: usize, v: u64) -> usize
     requires { ⌜ at + length (dotted v) ≤ length (now out) ⌝ }
     ensures { λ r. ⌜ Wrote (now (out .entry)) at (dotted v) (now (out .exit)) r ⌝ }
@@ -40,7 +39,7 @@ fn write_variable(out: &mut [u8], at: usize, v: u64) -> usize
     write_number(out, at + 1, v)
 }
 
-// The variables of one word of a set, whose lowest digit is variable first.
+// Writes the variables of one word of a set, whose lowest digit is variable first.
 fn write_word(out: &mut [u8], at: usize, w: u64, first: u64) -> usize
     requires { ⌜ (first + 64 ≤ variables) × (at + length (gather dotted (members 64 first w)) ≤ length (now out)) ⌝ }
     ensures { λ r. ⌜ Wrote (now (out .entry)) at (gather dotted (members 64 first w)) (now (out .exit)) r ⌝ }
@@ -48,14 +47,14 @@ fn write_word(out: &mut [u8], at: usize, w: u64, first: u64) -> usize
     let mut i = at;
     let mut left = w;
     while 0 < left {
-        let v = next_variable(left);
+        let v = words::lowest(left) as u64;
         left = words::without_lowest(left);
         i = write_variable(out, i, first + v);
     }
     i
 }
 
-// The variables of a set.
+// Writes the variables of a set.
 fn write_set(out: &mut [u8], at: usize, a: Set) -> usize
     requires { ⌜ at + length (gather dotted (members variables 0 (number a))) ≤ length (now out) ⌝ }
     ensures { λ r. ⌜ Wrote (now (out .entry)) at (gather dotted (members variables 0 (number a))) (now (out .exit)) r ⌝ }
@@ -69,7 +68,7 @@ fn write_set(out: &mut [u8], at: usize, a: Set) -> usize
     end
 }
 
-// A coefficient at k.
+// Writes a coefficient at k.
 fn write_coefficient(out: &mut [u8], at: usize, c: u64, k: u32) -> usize
     requires { ⌜ (1 ≤ k) × (k ≤ 64) × (c < 2 ^ k) × (at + length (spellCoefficient k c) ≤ length (now out)) ⌝ }
     ensures { λ r. ⌜ Wrote (now (out .entry)) at (spellCoefficient k c) (now (out .exit)) r ⌝ }
@@ -82,7 +81,7 @@ fn write_coefficient(out: &mut [u8], at: usize, c: u64, k: u32) -> usize
     write_number(out, at, s.magnitude)
 }
 
-// A term at k.
+// Writes a term at k.
 fn write_term(out: &mut [u8], at: usize, t: Term, k: u32) -> usize
     requires { ⌜ (1 ≤ k) × (k ≤ 64) × (termOf t .coef < 2 ^ k) × (at + length (spellTerm k (termOf t)) ≤ length (now out)) ⌝ }
     ensures { λ r. ⌜ Wrote (now (out .entry)) at (spellTerm k (termOf t)) (now (out .exit)) r ⌝ }
@@ -92,7 +91,7 @@ fn write_term(out: &mut [u8], at: usize, t: Term, k: u32) -> usize
     write_set(out, end, a)
 }
 
-// A term at k behind a space.
+// Writes a space, and a term at k behind it.
 fn write_spaced(out: &mut [u8], at: usize, t: Term, k: u32) -> usize
     requires { ⌜ (1 ≤ k) × (k ≤ 64) × (termOf t .coef < 2 ^ k) × (at + length (spaced k (termOf t)) ≤ length (now out)) ⌝ }
     ensures { λ r. ⌜ Wrote (now (out .entry)) at (spaced k (termOf t)) (now (out .exit)) r ⌝ }
@@ -101,7 +100,7 @@ fn write_spaced(out: &mut [u8], at: usize, t: Term, k: u32) -> usize
     write_term(out, at + 1, t, k)
 }
 
-// All terms but the first of a run of n terms at k.
+// Writes all terms but the first of a run of n terms at k.
 fn write_rest(out: &mut [u8], at: usize, s: &[u64], n: usize, k: u32) -> usize
     requires { ⌜ (1 ≤ k) × (k ≤ 64) × (1 ≤ n) × (n * termWords ≤ length (now s)) × Cut k (decode n (now s))
         × (at + length (gather (spaced k) (drop 1 (decode n (now s)))) ≤ length (now out)) ⌝ }
@@ -117,7 +116,7 @@ fn write_rest(out: &mut [u8], at: usize, s: &[u64], n: usize, k: u32) -> usize
     end
 }
 
-// A run of n terms at k, from the start of the output on.
+// Writes a run of n terms at k, from the start of the output on.
 pub(crate) fn write_run(out: &mut [u8], s: &[u64], n: usize, k: u32) -> usize
     requires { ⌜ (1 ≤ k) × (k ≤ 64) × (n * termWords ≤ length (now s)) × Cut k (decode n (now s)) × (length (spell k (decode n (now s))) ≤ length (now out)) ⌝ }
     ensures { λ r. ⌜ Wrote (now (out .entry)) 0 (spell k (decode n (now (s .entry)))) (now (out .exit)) r ⌝ }

@@ -55,12 +55,6 @@ unfolding number
 number-lt [] f = omega arith
 number-lt (w ∷ ws) f = rw (pow-words (length ws)) (digits-lt (number-lt ws (λ i. f (suc i))) (f 0 .fits))
 
-pub number-append : (us ws : List ℕ) → number (us ++ ws) ≡ number ws * 2 ^ (64 * length us) + number us
-unfolding number
-number-append [] ws = omega arith
-number-append (u ∷ us) ws =
-    omega (arith, number-append us ws, ap (λ (x : ℕ). number ws * x) (pow-words (length us)), mul-assoc (number ws) (2 ^ (64 * length us)) (2 ^ 64))
-
 pub number-inj : (us ws : List ℕ) → length us ≡ length ws → Words us → Words ws → number us ≡ number ws → us ≡ ws
 unfolding number
 number-inj [] [] l f g e = refl
@@ -116,11 +110,11 @@ number-less (suc n) (u ∷ us) (w ∷ ws) l f h t o =
     omega arith
 
 -- ---- digits
-pub bit-high : (m n v : ℕ) → bit (m / 2 ^ n) v ≡ bit m (n + v)
+bit-high : (m n v : ℕ) → bit (m / 2 ^ n) v ≡ bit m (n + v)
 unfolding bit
 bit-high m n v = ap (λ (x : ℕ). x % 2) (shr-shr m n v)
 
-pub bit-low : (m n v : ℕ) → v < n → bit (m % 2 ^ n) v ≡ bit m v
+bit-low : (m n v : ℕ) → v < n → bit (m % 2 ^ n) v ≡ bit m v
 unfolding bit
 bit-low m n v h =
     subst (λ (x : ℕ). m % 2 ^ x / 2 ^ v % 2 ≡ m / 2 ^ v % 2) (let e : n - v - 1 + 1 + v ≡ n = omega arith in e)
@@ -169,7 +163,7 @@ cond-append true v us ws = refl
 cond-append false v us ws = refl
 
 -- the first n digits, then the next
-pub members-append : (n k v m : ℕ) → members (n + k) v m ≡ members n v (m % 2 ^ n) ++ members k (v + n) (m / 2 ^ n)
+members-append : (n k v m : ℕ) → members (n + k) v m ≡ members n v (m % 2 ^ n) ++ members k (v + n) (m / 2 ^ n)
 unfolding members
 members-append zero k v m = rw (zero-add, add-zero, div-one)
 members-append (suc n) k v m =

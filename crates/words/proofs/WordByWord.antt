@@ -23,7 +23,7 @@ or-left-comm : (a b c : ℕ) → bitOr a (bitOr b c) ≡ bitOr b (bitOr a c)
 or-left-comm a b c = bit-ext _ _ (λ v. omega (arith, bit-or a (bitOr b c) v, bit-or b c v, bit-or b (bitOr a c) v, bit-or a c v))
 
 -- x united with word i
-pub number-or : (ws : List ℕ) (i x : ℕ) → Words ws → x < 2 ^ 64 → i < length ws
+number-or : (ws : List ℕ) (i x : ℕ) → Words ws → x < 2 ^ 64 → i < length ws
     → number (set ws i (bitOr (getD ws i 0) x)) ≡ bitOr (x * 2 ^ (64 * i)) (number ws)
 unfolding number
 number-or [] i x f h l = absurd (not-suc-le-zero l)

@@ -4,7 +4,7 @@ use mathlib.Core.Path.{_≡_, sym, ap, ap₂, _∙_, subst}
 use Prim.Native.Nat.{ℕ, _+_, _-_, _*_, _/_, _%_, _^_, _≤_, _<_}
 use native.Mathlib.Nat.{mul-comm, mul-assoc, mul-add, add-mul, div-add-mod', mul-mod-left, mul-add-mod-self-right, zero-mod, le-of-lt, lt-of-le-of-lt, mul-le-mul-left, mul-lt-mul-of-pos-right}
 use native.Mathlib.Omega.{arith}
-use lib.Bits.{bitAnd, and-mask, mask-lt}
+use lib.Bits.{bitAnd, and-mask}
 use lib.Pow.{pow-pos, pow-add, mod-mod-pow, ones-split, ones-lt, high}
 use Rattle.ground.proofs.Congruence.{Same, same-refl, same-eq, same-sym, same-mod, same-add, same-mul, same-cancel, _⊳_}
 
@@ -53,12 +53,6 @@ module _ (k : ℕ) (h : k ≤ 64) where
           ∙ high (2 ^ k - 1) (64 - k) (ones-lt (64 - k))
 
 -- ---- the product by halves
-low-half : (a : ℕ) → bitAnd a (2 ^ 32 - 1) ≡ a % 2 ^ 32
-low-half a = and-mask a 32
-
-pub low-half-lt : (a : ℕ) → bitAnd a (2 ^ 32 - 1) < 2 ^ 32
-low-half-lt a = mask-lt a 32
-
 pub halves-fit : {a b : ℕ} → a < 2 ^ 32 → b < 2 ^ 32 → a * b < 2 ^ 64
 halves-fit {a} {b} ha hb = lt-of-le-of-lt (mul-le-mul-left a (le-of-lt hb)) (mul-lt-mul-of-pos-right {k = 2 ^ 32} ha (pow-pos 32))
 
@@ -80,7 +74,7 @@ by-halves a b =
 pub halves : (a b cross : ℕ) → cross ≡ (a / 2 ^ 32 * bitAnd b (2 ^ 32 - 1) + bitAnd a (2 ^ 32 - 1) * (b / 2 ^ 32)) % 2 ^ 64
     → (bitAnd a (2 ^ 32 - 1) * bitAnd b (2 ^ 32 - 1) + (cross * 2 ^ 32) % 2 ^ 64) % 2 ^ 64 ≡ (a * b) % 2 ^ 64
 halves a b cross e =
-    rw (e, low-half a, low-half b)
+    rw (e, and-mask a 32, and-mask b 32)
     ((same-add same-refl (same-mod _ ⊳ same-mul (same-mod _) same-refl)
     ⊳ record { same = sym (mul-add-mod-self-right (a / 2 ^ 32 * (b / 2 ^ 32)) (2 ^ 64) _) }
     ⊳ same-eq (sym (by-halves a b))) .same)

@@ -131,6 +131,8 @@ pub fn without_lowest(w: u64) -> u64
     w & (w - 1)
 }
 
+// ---- a lent room
+
 // Makes every word 0.
 pub fn zero(room: &mut [u64])
     ensures { λ _. ⌜ now (room .exit) ≡ replicate (length (now (room .entry))) 0 ⌝ }

@@ -36,25 +36,25 @@ returns-4 : tie.Need-returns-4
 returns-4 c =
     let a = c .before .before .before .before .before .before .before .before .args in
     judged-ring (a .field .now) (a .k) (scanned (c .before .before .before .before .before .before .scan-field .ensures) (c .before .before .before .before .f .given .1)) (c .before .before .if1 .left)
-    (ring-low (a .field .now) (a .k) (c .if3 .taken))
+    (ring-low (a .k) (c .if3 .taken))
 
 returns-5 : tie.Need-returns-5
 returns-5 c =
     let a = c .before .before .before .before .before .before .before .before .before .args in
     judged-ring (a .field .now) (a .k) (scanned (c .before .before .before .before .before .before .before .scan-field .ensures) (c .before .before .before .before .before .f .given .1)) (c .before .before .before .if1 .left)
-    (ring-high (a .field .now) (a .k) (c .if4 .taken))
+    (ring-high (a .k) (c .if4 .taken))
 
 returns-6 : tie.Need-returns-6
 returns-6 c =
     let a = c .before .before .before .before .before .before .before .before .before .before .args in
     judged-terms (a .field .now) (a .k) (scanned (c .before .before .before .before .before .before .before .before .scan-field .ensures) (c .before .before .before .before .before .before .f .given .1))
-    (c .before .before .before .before .if1 .left) (not-false _ (c .before .before .before .if2 .left)) (ring-inside (a .field .now) (a .k) (omega arith) (c .before .if4 .left)) (not-true _ (c .if5 .taken))
+    (c .before .before .before .before .if1 .left) (not-false _ (c .before .before .before .if2 .left)) (ring-inside (a .k) (omega arith) (c .before .if4 .left)) (not-true _ (c .if5 .taken))
 
 returns-7 : tie.Need-returns-7
 returns-7 c =
     let a = c .before .before .before .before .before .before .before .before .before .before .args in
     judged-accepted (a .field .now) (a .k) (scanned (c .before .before .before .before .before .before .before .before .scan-field .ensures) (c .before .before .before .before .before .before .f .given .1))
-    (c .before .before .before .before .if1 .left) (not-false _ (c .before .before .before .if2 .left)) (ring-inside (a .field .now) (a .k) (omega arith) (c .before .if4 .left)) (not-false _ (c .if5 .left))
+    (c .before .before .before .before .if1 .left) (not-false _ (c .before .before .before .if2 .left)) (ring-inside (a .k) (omega arith) (c .before .if4 .left)) (not-false _ (c .if5 .left))
 
 pub judge-spec : {M : Type 1} → statement M
 judge-spec =

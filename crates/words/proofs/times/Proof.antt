@@ -2,19 +2,20 @@
 -- Assumes nothing.
 use mathlib.Core.Path.{_∙_}
 use native.Mathlib.Omega.{arith}
+use lib.Bits.{mask-lt}
 use borrow.Author.Needs.{needs}
-use Rattle.words.proofs.Wrap.{low-half-lt, halves-fit, halves}
+use Rattle.words.proofs.Wrap.{halves-fit, halves}
 use Rattle.words.proofs.times.Statement.{statement}
 use Rattle.words.proofs.times.Tie as tie
 
 mul-low : tie.Need-mul-low
-mul-low c = record { fits = halves-fit (low-half-lt (c .args .a)) (low-half-lt (c .args .b)) }
+mul-low c = record { fits = halves-fit (mask-lt (c .args .a) 32) (mask-lt (c .args .b) 32) }
 
 mul-left : tie.Need-mul-left
-mul-left c = record { fits = halves-fit (omega arith) (low-half-lt (c .args .b)) }
+mul-left c = record { fits = halves-fit (omega arith) (mask-lt (c .args .b) 32) }
 
 mul-right : tie.Need-mul-right
-mul-right c = record { fits = halves-fit (low-half-lt (c .args .a)) (omega arith) }
+mul-right c = record { fits = halves-fit (mask-lt (c .args .a) 32) (omega arith) }
 
 wrapping-add-u64-requires : tie.Need-wrapping-add-u64-requires
 wrapping-add-u64-requires c κs = search needs

@@ -6,7 +6,7 @@ use borrow.Author.Needs.{needs}
 use lib.ListN.{length}
 use Rattle.paper.specs.Spelling.{spellCoefficient}
 use Rattle.speller.proofs.Signs.{signed-minus, signed-plus}
-use Rattle.speller.proofs.Pieces.{word-digits}
+use Rattle.speller.proofs.Digits.{word-digits}
 use Rattle.speller.proofs.measure.coefficient_length.Statement.{statement}
 use Rattle.speller.proofs.measure.coefficient_length.Tie as tie
 

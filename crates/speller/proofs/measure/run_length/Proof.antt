@@ -1,7 +1,7 @@
 -- `speller::measure::run_length` meets its contract. The loop's invariant: the sum and the terms from the i-th on make up the run.
 -- The measure is the number of terms left. Assumes nothing.
 use mathlib.Core.Path.{_≡_, ap, sym}
-use Prim.Native.Nat.{_+_, _-_, _≤_}
+use Prim.Native.Nat.{_+_, _-_, _^_, _≤_, _<_}
 use native.Mathlib.Omega.{arith}
 use borrow.Author.Needs.{needs}
 use lib.ListN.{length}
@@ -47,35 +47,25 @@ term-length-requires-2 c κs =
     let a = c .before .before .before .before .before .before .before .args in
     (omega arith, omega arith, cut-at (a .k) (a .n) (a .s .now) (c .read-term2 .result) (c .before .before .loop .i) (omega arith) (c .read-term2 .ensures) (c .before .before .before .before .before .before .before .pre .4))
 
-add-sum : tie.Need-add-sum Inv-loop μ-loop
-add-sum c =
+-- the sum is part of a length that is far below 2 ^ 64
+sum-fits : (c : tie.After-term-length2 Inv-loop μ-loop) → c .before .before .before .loop .sum + (1 + c .term-length2 .result) < 2 ^ 64
+sum-fits c =
     let a = c .before .before .before .before .before .before .before .before .args in
     let t = c .before .read-term2 in
     let l = c .before .before .before .loop in
-    record {
-      fits = omega (
-        arith,
-        c .term-length2 .ensures,
-        run-length-more (a .k) (a .n) (a .s .now) (t .result) (l .i) (omega arith) (t .ensures),
-        run-most (a .k) (decode (a .n) (a .s .now)) (omega arith) (c .before .before .before .before .before .before .before .before .pre .4),
-        room-most (a .n) (a .s .now),
-      );
-    }
+    omega (
+      arith,
+      c .term-length2 .ensures,
+      run-length-more (a .k) (a .n) (a .s .now) (t .result) (l .i) (omega arith) (t .ensures),
+      run-most (a .k) (decode (a .n) (a .s .now)) (omega arith) (c .before .before .before .before .before .before .before .before .pre .4),
+      room-most (a .n) (a .s .now),
+    )
+
+add-sum : tie.Need-add-sum Inv-loop μ-loop
+add-sum c = record { fits = omega (arith, sum-fits c) }
 
 add-sum-2 : tie.Need-add-sum-2 Inv-loop μ-loop
-add-sum-2 c =
-    let a = c .before .before .before .before .before .before .before .before .args in
-    let t = c .before .read-term2 in
-    let l = c .before .before .before .loop in
-    record {
-      fits = omega (
-        arith,
-        c .term-length2 .ensures,
-        run-length-more (a .k) (a .n) (a .s .now) (t .result) (l .i) (omega arith) (t .ensures),
-        run-most (a .k) (decode (a .n) (a .s .now)) (omega arith) (c .before .before .before .before .before .before .before .before .pre .4),
-        room-most (a .n) (a .s .now),
-      );
-    }
+add-sum-2 c = record { fits = omega (arith, sum-fits c) }
 
 add-i : tie.Need-add-i Inv-loop μ-loop
 add-i c = search needs

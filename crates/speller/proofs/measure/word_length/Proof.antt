@@ -9,7 +9,8 @@ use lib.Pow.{pow-pos}
 use Rattle.ground.specs.Lists.{gather}
 use Rattle.algebra.specs.Polynomial.{members}
 use Rattle.speller.specs.Writing.{dotted}
-use Rattle.speller.proofs.Pieces.{word-length-more, word-end, word-most, word-digits}
+use Rattle.speller.proofs.Digits.{word-digits}
+use Rattle.speller.proofs.Pieces.{word-length-more, word-end, word-most}
 use Rattle.speller.proofs.measure.word_length.Statement.{statement}
 use Rattle.speller.proofs.measure.word_length.Tie as tie
 
@@ -22,8 +23,11 @@ abbrev μ-loop : tie.MeasureT-loop
 loop-holds : tie.Need-loop-holds Inv-loop μ-loop
 loop-holds c = omega arith
 
-next-variable-requires : tie.Need-next-variable-requires Inv-loop μ-loop
-next-variable-requires c κs = search needs
+lowest-requires : tie.Need-lowest-requires Inv-loop μ-loop
+lowest-requires c κs = search needs
+
+cast-v : tie.Need-cast-v Inv-loop μ-loop
+cast-v c = search needs
 
 without-lowest-requires : tie.Need-without-lowest-requires Inv-loop μ-loop
 without-lowest-requires c κs = search needs
@@ -36,13 +40,13 @@ number-length-requires c κs = search needs
 
 add-sum : tie.Need-add-sum Inv-loop μ-loop
 add-sum c =
-    let v = c .before .before .next-variable in
+    let v = c .before .before .lowest in
     let a = c .before .before .before .before .before .args in
     record { fits = omega (arith, c .number-length .ensures, word-digits (a .first + v .result) (omega (arith, v .ensures .inside))) }
 
 add-sum-2 : tie.Need-add-sum-2 Inv-loop μ-loop
 add-sum-2 c =
-    let v = c .before .before .next-variable in
+    let v = c .before .before .lowest in
     let r = c .before .without-lowest in
     let l = c .before .before .before .before .loop in
     let a = c .before .before .before .before .before .args in
@@ -50,13 +54,13 @@ add-sum-2 c =
 
 loop-less : tie.Need-loop-less Inv-loop μ-loop
 loop-less c =
-    let v = c .before .before .next-variable in
+    let v = c .before .before .lowest in
     let r = c .before .without-lowest in
     omega (arith, r .ensures (v .result) (v .ensures), pow-pos (v .result))
 
 loop-again : tie.Need-loop-again Inv-loop μ-loop
 loop-again c =
-    let v = c .before .before .next-variable in
+    let v = c .before .before .lowest in
     let r = c .before .without-lowest in
     let l = c .before .before .before .before .loop in
     let a = c .before .before .before .before .before .args in
@@ -74,7 +78,8 @@ word-length-spec =
     Inv-loop
     μ-loop
     loop-holds
-    next-variable-requires
+    lowest-requires
+    cast-v
     without-lowest-requires
     add-number-length
     number-length-requires

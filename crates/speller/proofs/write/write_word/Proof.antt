@@ -23,8 +23,11 @@ loop-holds c =
     let a = c .before .args in
     left-start (a .out .now) (a .at) (gather dotted (members 64 (a .first) (a .w)))
 
-next-variable-requires : tie.Need-next-variable-requires Inv-loop μ-loop
-next-variable-requires c κs = search needs
+lowest-requires : tie.Need-lowest-requires Inv-loop μ-loop
+lowest-requires c κs = search needs
+
+cast-v : tie.Need-cast-v Inv-loop μ-loop
+cast-v c = search needs
 
 without-lowest-requires : tie.Need-without-lowest-requires Inv-loop μ-loop
 without-lowest-requires c κs = search needs
@@ -34,7 +37,7 @@ add-write-variable c = search needs
 
 write-variable-requires : tie.Need-write-variable-requires Inv-loop μ-loop
 write-variable-requires c κs =
-    let v = c .before .before .next-variable in
+    let v = c .before .before .lowest in
     let r = c .before .without-lowest in
     let l = c .before .before .before .before .loop in
     let a = c .before .before .before .before .before .before .args in
@@ -43,13 +46,13 @@ write-variable-requires c κs =
 
 loop-less : tie.Need-loop-less Inv-loop μ-loop
 loop-less c =
-    let v = c .before .before .before .before .before .next-variable in
+    let v = c .before .before .before .before .before .lowest in
     let r = c .before .before .before .before .without-lowest in
     omega (arith, r .ensures (v .result) (v .ensures), pow-pos (v .result))
 
 loop-again : tie.Need-loop-again Inv-loop μ-loop
 loop-again c =
-    let v = c .before .before .before .before .before .next-variable in
+    let v = c .before .before .before .before .before .lowest in
     let r = c .before .before .before .before .without-lowest in
     let l = c .before .before .before .before .before .before .before .loop in
     let a = c .before .before .before .before .before .before .before .before .before .args in
@@ -70,7 +73,8 @@ write-word-spec =
     Inv-loop
     μ-loop
     loop-holds
-    next-variable-requires
+    lowest-requires
+    cast-v
     without-lowest-requires
     add-write-variable
     write-variable-requires
