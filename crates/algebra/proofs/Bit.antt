@@ -8,9 +8,9 @@ use native.Mathlib.Nat.{mod-lt, mod-mod, zero-mod, mod-self}
 use native.Mathlib.Omega.{arith}
 use lib.Pow.{pow-pos}
 use lib.Dec.{eqb}
-use borrow.Author.Tests.{eqb-true, eq-eqb}
+use borrow.Author.Tests.{eqb-true}
 use Rattle.ground.proofs.Congruence.{Same, same-mod, same-add, same-refl, same-eq, same-sym, _⊳_}
-use Rattle.ground.proofs.Tests.{and-left, and-right, and-both}
+use Rattle.ground.proofs.Tests.{and-left, and-right}
 use Rattle.ground.proofs.Square.{bit-square}
 use Rattle.algebra.specs.Polynomial.{bit, Poly, value, vars, equal, product, extension}
 use Rattle.algebra.proofs.Values.{keep, sumAt, value-reduce, value-mul}
@@ -33,14 +33,6 @@ equal-true (s ∷ p) (t ∷ q) e =
     ec : s .coef ≡ t .coef
     ec = eqb-true (s .coef) (t .coef) (and-right (eqb (s .set) (t .set)) (eqb (s .coef) (t .coef)) both)
 
-pub equal-refl : (p : Poly) → equal p p ≡ true
-unfolding equal
-equal-refl [] = refl
-equal-refl (t ∷ p) =
-    and-both (eqb (t .set) (t .set) && eqb (t .coef) (t .coef)) (equal p p)
-    (and-both (eqb (t .set) (t .set)) (eqb (t .coef) (t .coef)) (eq-eqb (t .set) (t .set) refl) (eq-eqb (t .coef) (t .coef) refl))
-    (equal-refl p)
-
 sumAt-agree : (a b : ℕ) (p : Poly) → AgreeOn (vars p) a b → sumAt a p ≡ sumAt b p
 unfolding vars
 sumAt-agree a b [] h = refl
@@ -56,7 +48,7 @@ module _ (k : ℕ) where
   unfolding value
   value-agree a b p h = ap (λ (x : ℕ). x % 2 ^ k) (sumAt-agree a b p h)
 
-  pub value-mod : (a : ℕ) (p : Poly) → value k a p % 2 ^ k ≡ value k a p
+  value-mod : (a : ℕ) (p : Poly) → value k a p % 2 ^ k ≡ value k a p
   unfolding value
   value-mod a p = mod-mod (sumAt a p) (2 ^ k)
 

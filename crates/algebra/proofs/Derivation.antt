@@ -10,7 +10,7 @@ use Rattle.algebra.proofs.Sets.{AgreeOn, bit-or, bit-pow, Changed, chan
 use Rattle.algebra.proofs.Bit.{value-agree, bit-valued, extension-zero}
 
 module _ (k : ℕ) where
-  pub zero-agree : (a b : ℕ) (ps : List Poly) → AgreeOn (allVars ps) a b → AllZero k a ps → AllZero k b ps
+  zero-agree : (a b : ℕ) (ps : List Poly) → AgreeOn (allVars ps) a b → AllZero k a ps → AllZero k b ps
   unfolding allVars
   zero-agree a b [] h z = tt
   zero-agree a b (p ∷ ps) h z =

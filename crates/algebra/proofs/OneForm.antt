@@ -8,10 +8,10 @@ use native.Mathlib.Omega.{arith}
 use lib.Pow.{pow-pos}
 use lib.Dec.{eqb, ltb}
 use borrow.Author.Tests.{eqb-true, eqb-false, ltb-true, ltb-false, lt-ltb, le-ltb}
-use Rattle.ground.proofs.Congruence.{Same, same-add, same-cancel, same-refl, same-eq, _⊳_}
+use Rattle.ground.proofs.Congruence.{Same, same-add, same-cancel, same-eq, _⊳_}
 use Rattle.ground.proofs.Tests.{split, bool-ext, and-both, and-left}
 use Rattle.algebra.specs.Polynomial.{holds, Poly, sumIf, coefOf, value, reduce, Below}
-use Rattle.algebra.proofs.Values.{keep, sumAt, keep-add, sum-reduce, value-reduce}
+use Rattle.algebra.proofs.Values.{keep, sumAt, keep-add, keep-same, sum-reduce, value-reduce}
 use Rattle.algebra.proofs.Sets.{holds-refl, holds-le}
 use Rattle.algebra.proofs.Reduced.{is-reduce, reduced-reduce}
 
@@ -60,13 +60,9 @@ module _ (k : ℕ) (p q : Poly) where
       → Same (2 ^ k) (sumIf (λ n. f n && ltb n b) p) (sumIf (λ n. f n && ltb n b) q)
   upto zero h f = same-eq (sum-below-none f p ∙ sym (sum-below-none f q))
   upto (suc b) h f =
-      same-eq (sum-step f b p) ⊳ same-add (upto b (λ n l. h n (omega arith)) f) (keep-same (f b)) ⊳ same-eq (sym (sum-step f b q))
-    where
-      keep-same : (x : Bool) → Same (2 ^ k) (keep x (coefOf b p)) (keep x (coefOf b q))
-      keep-same true = h b (omega arith)
-      keep-same false = same-refl
+      same-eq (sum-step f b p) ⊳ same-add (upto b (λ n l. h n (omega arith)) f) (keep-same (f b) (h b (omega arith))) ⊳ same-eq (sym (sum-step f b q))
 
-  pub coefs-agree : (B : ℕ) → ((a : ℕ) → a < B → Same (2 ^ k) (sumAt a p) (sumAt a q)) → (b : ℕ) → b ≤ B
+  coefs-agree : (B : ℕ) → ((a : ℕ) → a < B → Same (2 ^ k) (sumAt a p) (sumAt a q)) → (b : ℕ) → b ≤ B
       → (n : ℕ) → n < b → Same (2 ^ k) (coefOf n p) (coefOf n q)
   coefs-agree B h zero l n ln = absurd (omega arith)
   coefs-agree B h (suc b) l n ln =

@@ -2,7 +2,7 @@
 use mathlib.Core.Path.{_≡_, refl, sym, ap, ap₂, _∙_, subst}
 use mathlib.Core.Bool.{Bool}
 use mathlib.Core.Logic.{⊎-elim}
-use mathlib.Core.List.{[], _∷_, _++_}
+use mathlib.Core.List.{[], _∷_}
 use Prim.Native.Nat.{ℕ, _+_, _%_, _^_, _≤_, _<_}
 use native.Mathlib.Nat.{mod-lt}
 use native.Mathlib.Omega.{arith}
@@ -14,12 +14,17 @@ use Rattle.ground.proofs.Tests.{by-cond, split}
 use Rattle.algebra.specs.Polynomial.{Term, Poly, coefOf, put, insert, reduce, Below, Reduced}
 use Rattle.algebra.proofs.Values.{keep, sum-reduce}
 
+-- a term that is not of the set n leaves its coefficient
+coef-skip : (n : ℕ) (t : Term) (p : Poly) → n < t .set → coefOf n (t ∷ p) ≡ coefOf n p
+unfolding coefOf
+coef-skip n t p h = omega (arith, ap (λ (x : Bool). keep x (t .coef)) (ne-eqb (t .set) n (λ e. omega arith)))
+
 module _ (k : ℕ) where
-  pub reduced-weaken : {a b : ℕ} (p : Poly) → a ≤ b → Reduced k a p → Reduced k b p
+  reduced-weaken : {a b : ℕ} (p : Poly) → a ≤ b → Reduced k a p → Reduced k b p
   reduced-weaken [] h c = tt
   reduced-weaken (t ∷ p) h c = (omega arith, c .1, c .2, c .3)
 
-  pub reduced-put : {b : ℕ} (m c : ℕ) (p : Poly) → m < b → Reduced k m p → Reduced k b (put k m c p)
+  reduced-put : {b : ℕ} (m c : ℕ) (p : Poly) → m < b → Reduced k m p → Reduced k b (put k m c p)
   unfolding put
   reduced-put {b} m c p h q =
       by-cond (Reduced k b) (eqb (c % 2 ^ k) 0)
@@ -36,36 +41,24 @@ module _ (k : ℕ) where
       (λ l. reduced-put m c (t ∷ p) h (ltb-true (t .set) m l, q .1, q .2, q .3))
       (λ l. (q .0, q .1, q .2, reduced-insert m c p (omega (arith, ltb-false (t .set) m l, eqb-false m (t .set) e)) (q .3))))
 
-  below-weaken : {a b : ℕ} (p : Poly) → a ≤ b → Below a p → Below b p
-  below-weaken [] h c = tt
-  below-weaken (t ∷ p) h c = (omega arith, below-weaken p h (c .1))
-
-  below-reduced : (b : ℕ) (p : Poly) → Reduced k b p → Below b p
-  below-reduced b [] c = tt
-  below-reduced b (t ∷ p) c = (c .0, below-weaken p (omega arith) (below-reduced (t .set) p (c .3)))
-
-  pub reduced-below : (b : ℕ) (p q : Poly) → Reduced k b p → Reduced k b q → Below b (p ++ q)
-  reduced-below b [] q c d = below-reduced b q d
-  reduced-below b (t ∷ p) q c d = (c .0, reduced-below b p q (reduced-weaken p (omega arith) (c .3)) d)
-
   pub reduced-reduce : (b : ℕ) (p : Poly) → Below b p → Reduced k b (reduce k p)
   unfolding reduce
   reduced-reduce b [] h = tt
   reduced-reduce b (t ∷ p) h = reduced-insert (t .set) (t .coef) (reduce k p) (h .0) (reduced-reduce b p (h .1))
 
   -- ---- the coefficient of a set
-  pub coef-none : (b n : ℕ) (p : Poly) → Reduced k b p → b ≤ n → coefOf n p ≡ 0
+  coef-none : (b n : ℕ) (p : Poly) → Reduced k b p → b ≤ n → coefOf n p ≡ 0
   unfolding coefOf
   coef-none b n [] c h = refl
   coef-none b n (t ∷ p) c h =
       ap₂ (λ (x : Bool) (y : ℕ). keep x (t .coef) + y) (ne-eqb (t .set) n (λ e. omega arith)) (coef-none (t .set) n p (c .3) (omega arith))
 
-  pub coef-head : (b : ℕ) (t : Term) (p : Poly) → Reduced k b (t ∷ p) → coefOf (t .set) (t ∷ p) ≡ t .coef
+  coef-head : (b : ℕ) (t : Term) (p : Poly) → Reduced k b (t ∷ p) → coefOf (t .set) (t ∷ p) ≡ t .coef
   unfolding coefOf
   coef-head b t p c =
       ap₂ (λ (x : Bool) (y : ℕ). keep x (t .coef) + y) (eq-eqb (t .set) (t .set) refl) (coef-none (t .set) (t .set) p (c .3) (omega arith)) ∙ omega arith
 
-  pub coef-lt : (b n : ℕ) (p : Poly) → Reduced k b p → coefOf n p < 2 ^ k
+  coef-lt : (b n : ℕ) (p : Poly) → Reduced k b p → coefOf n p < 2 ^ k
   unfolding coefOf
   coef-lt b n [] c = pow-pos k
   coef-lt b n (t ∷ p) c =
@@ -74,12 +67,8 @@ module _ (k : ℕ) where
       (λ e. omega (arith, ap (λ (x : Bool). keep x (t .coef)) e, coef-lt (t .set) n p (c .3)))
       (split (eqb (t .set) n))
 
-  coef-skip : (n : ℕ) (t : Term) (p : Poly) → n < t .set → coefOf n (t ∷ p) ≡ coefOf n p
-  unfolding coefOf
-  coef-skip n t p h = omega (arith, ap (λ (x : Bool). keep x (t .coef)) (ne-eqb (t .set) n (λ e. omega arith)))
-
   -- two reduced forms with the same coefficients are one
-  pub unique : (b : ℕ) (p q : Poly) → Reduced k b p → Reduced k b q → ((n : ℕ) → n < b → coefOf n p ≡ coefOf n q) → p ≡ q
+  unique : (b : ℕ) (p q : Poly) → Reduced k b p → Reduced k b q → ((n : ℕ) → n < b → coefOf n p ≡ coefOf n q) → p ≡ q
   unique b [] [] c d h = refl
   unique b [] (t ∷ q) c d h = absurd (omega (arith, h (t .set) (d .0), coef-head b t q d, coef-none 0 (t .set) [] tt (omega arith)))
   unique b (s ∷ p) [] c d h = absurd (omega (arith, h (s .set) (c .0), coef-head b s p c, coef-none 0 (s .set) [] tt (omega arith)))

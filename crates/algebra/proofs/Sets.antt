@@ -23,7 +23,7 @@ pub bit-or : (a b v : ℕ) → bit (bitOr a b) v ≡ max (bit a v) (bit b v)
 unfolding bit
 bit-or a b v = ap (λ (x : ℕ). x % 2) (or-shr a b v) ∙ ap (λ (x : ℕ). x % 2) (or-step (a / 2 ^ v) (b / 2 ^ v)) ∙ digits-mod _ (omega (arith, bit-lt a v, bit-lt b v))
 
-pub bit-and : (a b v : ℕ) → bit (bitAnd a b) v ≡ min (bit a v) (bit b v)
+bit-and : (a b v : ℕ) → bit (bitAnd a b) v ≡ min (bit a v) (bit b v)
 unfolding bit
 bit-and a b v = ap (λ (x : ℕ). x % 2) (and-shr a b v) ∙ ap (λ (x : ℕ). x % 2) (and-step (a / 2 ^ v) (b / 2 ^ v)) ∙ digits-mod _ (omega (arith, bit-lt a v, bit-lt b v))
 
@@ -47,11 +47,11 @@ bit-ext =
     (λ a ih b h. omega (arith, ih (b / 2) (λ v. sym (bit-suc a v) ∙ h (suc v) ∙ bit-suc b v), h 0, bit-zero a, bit-zero b))
 
 -- ---- sets
-pub holds-bits : (m a : ℕ) → holds m a ≡ true → (v : ℕ) → bit m v ≤ bit a v
+holds-bits : (m a : ℕ) → holds m a ≡ true → (v : ℕ) → bit m v ≤ bit a v
 unfolding holds
 holds-bits m a e v = omega (arith, bit-and m a v, ap (λ (x : ℕ). bit x v) (eqb-true (bitAnd m a) m e))
 
-pub bits-holds : (m a : ℕ) → ((v : ℕ) → bit m v ≤ bit a v) → holds m a ≡ true
+bits-holds : (m a : ℕ) → ((v : ℕ) → bit m v ≤ bit a v) → holds m a ≡ true
 unfolding holds
 bits-holds m a h = eq-eqb (bitAnd m a) m (bit-ext (bitAnd m a) m (λ v. omega (arith, bit-and m a v, h v)))
 
@@ -85,7 +85,7 @@ differ-lt (suc zero) zero h l = h
 differ-lt (suc zero) (suc y) h l = omega arith
 differ-lt (suc (suc x)) y h l = absurd (omega arith)
 
-pub bit-xor : (a b v : ℕ) → bit (bitXor a b) v ≡ differ (bit a v) (bit b v)
+bit-xor : (a b v : ℕ) → bit (bitXor a b) v ≡ differ (bit a v) (bit b v)
 unfolding bit
 bit-xor a b v = ap (λ (x : ℕ). x % 2) (xor-shr a b v) ∙ ap (λ (x : ℕ). x % 2) (xor-step (a / 2 ^ v) (b / 2 ^ v)) ∙ digits-mod _ (differ-lt _ _ (bit-lt a v) (bit-lt b v))
 
@@ -136,7 +136,7 @@ agree-left s t h = record { at = λ w e. h .at w (omega (arith, bit-or s t w, bi
 pub agree-right : (s t : ℕ) {a b : ℕ} → AgreeOn (bitOr s t) a b → AgreeOn t a b
 agree-right s t h = record { at = λ w e. h .at w (omega (arith, bit-or s t w, bit-lt s w)) }
 
-pub agree-sym : {s a b : ℕ} → AgreeOn s a b → AgreeOn s b a
+agree-sym : {s a b : ℕ} → AgreeOn s a b → AgreeOn s b a
 agree-sym h = record { at = λ w e. sym (h .at w e) }
 
 holds-agree-to : (m a b : ℕ) → AgreeOn m a b → holds m a ≡ true → holds m b ≡ true
@@ -152,6 +152,10 @@ pub has-false : (m v : ℕ) → has m v ≡ false → bit m v ≡ 0
 unfolding has
 has-false m v e = omega (arith, bit-lt m v, eqb-false (bit m v) 1 e)
 
+pub has-none : (m v : ℕ) → bit m v ≡ 0 → has m v ≡ false
+unfolding has
+has-none m v e = ne-eqb (bit m v) 1 (λ f. omega arith)
+
 pub changed-agree : {a v d b m : ℕ} → Changed a v d b → bit m v ≡ 0 → AgreeOn m a b
 changed-agree {v} {m} c z = record { at = λ w e. sym (c .there w (λ q. omega (arith, ap (λ (x : ℕ). bit m x) q))) }
 
@@ -160,7 +164,3 @@ apart-agree {m} {n} h d = record { at = λ v e. d .at v (omega (arith, bit-lt m 
   where
     clash : (v : ℕ) → bit n v ≡ 1 → bit m v ≡ 1 → ⊥
     clash v e f = omega (arith, h .at v f)
-
-pub has-none : (m v : ℕ) → bit m v ≡ 0 → has m v ≡ false
-unfolding has
-has-none m v e = ne-eqb (bit m v) 1 (λ f. omega arith)

@@ -36,7 +36,7 @@ sumIf-append f (t ∷ p) q = omega (arith, sumIf-append f p q)
 pub sumAt-append : (a : ℕ) (p q : Poly) → sumAt a (p ++ q) ≡ sumAt a p + sumAt a q
 sumAt-append a p q = sumIf-append (λ m. holds m a) p q
 
-pub sumAt-times : (a : ℕ) (t : Term) (q : Poly) → sumAt a (times t q) ≡ keep (holds (t .set) a) (t .coef) * sumAt a q
+sumAt-times : (a : ℕ) (t : Term) (q : Poly) → sumAt a (times t q) ≡ keep (holds (t .set) a) (t .coef) * sumAt a q
 unfolding times
 sumAt-times a t [] = sym (mul-zero _)
 sumAt-times a t (u ∷ q) =
@@ -52,21 +52,21 @@ sumAt-mul a (t ∷ p) q =
     sumAt-append a (times t q) (products p q) ∙ ap₂ (λ (x y : ℕ). x + y) (sumAt-times a t q) (sumAt-mul a p q)
     ∙ sym (add-mul (keep (holds (t .set) a) (t .coef)) (sumAt a p) (sumAt a q))
 
+pub keep-same : {M c d : ℕ} (b : Bool) → Same M c d → Same M (keep b c) (keep b d)
+keep-same true h = h
+keep-same false h = same-refl
+
+keep-zero : {M : ℕ} (b : Bool) (c : ℕ) → c % M ≡ 0 → Same M 0 (keep b c)
+keep-zero {M} true c e = record { same = zero-mod M ∙ sym e }
+keep-zero false c e = same-refl
+
 module _ (k : ℕ) (f : ℕ → Bool) where
-  keep-mod : (b : Bool) (c : ℕ) → Same (2 ^ k) (keep b (c % 2 ^ k)) (keep b c)
-  keep-mod true c = same-mod c
-  keep-mod false c = same-refl
-
-  keep-zero : (b : Bool) (c : ℕ) → c % 2 ^ k ≡ 0 → Same (2 ^ k) 0 (keep b c)
-  keep-zero true c e = record { same = zero-mod (2 ^ k) ∙ sym e }
-  keep-zero false c e = same-refl
-
-  pub sum-put : (m c : ℕ) (p : Poly) → Same (2 ^ k) (sumIf f (put k m c p)) (keep (f m) c + sumIf f p)
+  sum-put : (m c : ℕ) (p : Poly) → Same (2 ^ k) (sumIf f (put k m c p)) (keep (f m) c + sumIf f p)
   unfolding put
   sum-put m c p =
       by-cond (λ (q : Poly). Same (2 ^ k) (sumIf f q) (keep (f m) c + sumIf f p)) (eqb (c % 2 ^ k) 0)
       (λ e. same-eq (sym (zero-add (sumIf f p))) ⊳ same-add (keep-zero (f m) c (eqb-true (c % 2 ^ k) 0 e)) same-refl)
-      (λ e. same-add (keep-mod (f m) c) same-refl)
+      (λ e. same-add (keep-same (f m) (same-mod c)) same-refl)
 
   sum-insert : (m c : ℕ) (p : Poly) → Same (2 ^ k) (sumIf f (insert k m c p)) (keep (f m) c + sumIf f p)
   unfolding insert
@@ -83,7 +83,6 @@ module _ (k : ℕ) (f : ℕ → Bool) where
   sum-reduce [] = same-refl
   sum-reduce (t ∷ p) = sum-insert (t .set) (t .coef) (reduce k p) ⊳ same-add same-refl (sum-reduce p)
 
--- a reduced sum or product has the sum or product of the values
 module _ (k a : ℕ) where
   pub value-reduce : (p : Poly) → value k a (reduce k p) ≡ value k a p
   unfolding value

@@ -9,7 +9,7 @@ use Rattle.algebra.specs.Polynomial.{bit, Poly, vars, put, insert, reduc
 use Rattle.algebra.proofs.Sets.{bit-or}
 
 module _ (k w : ℕ) where
-  abbrev pub In : ℕ → Poly → Type 0
+  abbrev In : ℕ → Poly → Type 0
   In m p = bit (vars p) w ≤ bit m w
 
   vars-put : (m c : ℕ) (p : Poly) → In (bitOr m (vars p)) (put k m c p)
@@ -30,7 +30,7 @@ module _ (k w : ℕ) where
       Goal : Poly → Type 0
       Goal q = In (bitOr m (bitOr (t .set) (vars p))) q
 
-  pub vars-reduce : (p : Poly) → In (vars p) (reduce k p)
+  vars-reduce : (p : Poly) → In (vars p) (reduce k p)
   unfolding reduce vars
   vars-reduce [] = omega arith
   vars-reduce (t ∷ p) =

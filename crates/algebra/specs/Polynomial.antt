@@ -35,7 +35,7 @@ pub record Term : Type 0 where
 abbrev pub Poly : Type 0
 Poly = List Term
 
--- the coefficients of the terms whose sets pass a test, added
+-- the coefficients of the terms whose sets pass a test, added; and of those whose set is n
 abbrev pub sumIf : (ℕ → Bool) → Poly → ℕ
 sumIf f [] = 0
 sumIf f (t ∷ p) = cond (f (t .set)) (t .coef) 0 + sumIf f p
@@ -99,7 +99,7 @@ module _ (k : ℕ) where
   unfoldable pub extension : ℕ → Poly → Poly
   extension v p = reduce (record { set = 2 ^ v; coef = 2 ^ k - 1 } ∷ p)
 
-  -- reduced, and every set below b
+  -- in reduced form: coefficients 1 to 2 ^ k - 1, and each set below the one before it, the first below b
   abbrev pub Reduced : ℕ → Poly → Type 0
   Reduced b [] = Unit {0}
   Reduced b (t ∷ p) = (t .set < b) × (0 < t .coef) × (t .coef < 2 ^ k) × Reduced (t .set) p

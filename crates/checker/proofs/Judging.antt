@@ -14,8 +14,7 @@ use Rattle.paper.specs.Grammar.{Bytes, Line, Read, got, stuck, next, kinds, one
 use Rattle.paper.specs.Statement.{Statement, fields, numbersInRange, tooManyTerms}
 use Rattle.paper.specs.Rules as paper
 use Rattle.paper.specs.Answer.{stands, refused, judge, judgeLine}
-use Rattle.paper.proofs.Judging.{judge-stands}
-use Rattle.paper.proofs.Running.{line-long, line-stuck, line-read}
+use Rattle.paper.proofs.Running.{judge-stands, line-long, line-stuck, line-read}
 use Rattle.reader.specs.declared.line.Kind.{Kind}
 use Rattle.reader.specs.declared.line.LineScan.{LineScan}
 use Rattle.reader.specs.declared.line.LineScan.the-variants.{Line as Scanned, Stuck}

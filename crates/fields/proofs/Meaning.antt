@@ -9,10 +9,11 @@ use Rattle.ground.specs.Lists.{every}
 use Rattle.ground.proofs.Tests.{and-left, and-right}
 use Rattle.limits.specs.Limits.{greatestMagnitude}
 use Rattle.algebra.specs.Polynomial.{sumIf, reduce}
+use Rattle.algebra.proofs.Values.{keep-same}
 use Rattle.algebra.proofs.Sums.{reduce-sums}
 use Rattle.words.proofs.Wrap.{same-cut, same-negative}
 use Rattle.paper.specs.Statement.{Written, isTerm, inRange, setOf, asTerm, reduced}
-use Rattle.paper.proofs.Ranges.{term-in-range, keep-same}
+use Rattle.paper.proofs.Ranges.{term-in-range}
 use Rattle.fields.specs.Worded.{signedWord, wordedTerm, worded}
 
 module _ (k : ℕ) (h : k ≤ 64) where

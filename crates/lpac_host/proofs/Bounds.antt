@@ -23,7 +23,7 @@ unfolding onFirst
 first-line b [] = omega arith
 first-line b (l ∷ ls) = omega arith
 
-pub lines-few : (text : Bytes) → length (lines text) ≤ length text
+lines-few : (text : Bytes) → length (lines text) ≤ length text
 unfolding lines
 lines-few [] = omega arith
 lines-few (b ∷ s) =

@@ -34,9 +34,6 @@ module _ {text : Bytes} {pool scratch p q : List ℕ} {a : Answer} (c : Checked 
       rw (le-ltb hostTextBytes (length text) l) (ap (λ (x : paper.Answer). x .verdict + lineWeight * x .line) g)
 
 -- ---- its number
-pub hosted-one : (text : Bytes) (r s : ℕ) → Hosted text r → Hosted text s → r ≡ s
-hosted-one text r s e f = e ∙ sym f
-
 host-low : (text : Bytes) → hostAnswer text .verdict < lineWeight
 unfolding hostAnswer unread
 host-low text =

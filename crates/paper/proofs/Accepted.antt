@@ -16,7 +16,7 @@ use Rattle.paper.specs.Answer.{ringIn, definedIn, inputsIn, goalIn, intr
 use Rattle.paper.proofs.Steps.{Opened, nothing, opening}
 use Rattle.paper.proofs.Sound.{Good, Final, final}
 
--- all of it at the ring k
+-- the inputs of sts force its goal, and its definitions can be met, at the ring k
 pub record Sound (k : ℕ) (sts : List Statement) : Type 0 where
   pub goal-zero : (a : ℕ) → AllZero k a (inputsIn k sts) → value k a (goalIn k sts) ≡ 0
   pub all-zero : (a : ℕ) → AllZero k a (inputsIn k sts) → Zeroed k a (definedIn sts) (introducedIn k sts)

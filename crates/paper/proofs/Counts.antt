@@ -13,7 +13,7 @@ use Rattle.paper.specs.Statement.{Statement, ring, input, goal, lin, del
 use Rattle.paper.specs.Rules.{modulo, Store, stored, find, storedTerms, State, start, place, entries, productCount, after}
 use Rattle.paper.specs.Answer.{ringIn, sumOver, named, productsIn, introducedPolynomials, deletedPolynomials, introducedTerms, deletedTerms}
 use Rattle.paper.proofs.Stands.{Stands, stands-none}
-use Rattle.paper.proofs.Steps.{Steps, done, step, Opened, nothing, opening}
+use Rattle.paper.proofs.Steps.{withRing, by-ring, Steps, done, step, Opened, nothing, opening}
 use Rattle.paper.proofs.Store.{Distinct, find-new, terms-append, distinct-append, distinct-remove, find-remove, terms-remove}
 
 look : (b : Bool) (p q : Poly) → cond b p q ≡ cond (b || false) (cond b p []) q
@@ -26,115 +26,108 @@ no-terms = refl
 
 module _ (k : ℕ) where
   -- what the state carries after the statements h, the newest first
-  pub record Carried (s : State) (h : List Statement) : Type 0 where
-    pub ringed : s .ring ≡ modulo k
-    pub begun : 0 < s .phase
-    pub ring-in : ringIn h ≡ k
-    pub distinct : Distinct (s .store)
-    pub finds : (i : ℕ) → find (s .store) i ≡ named k h i
-    pub products : s .products ≡ productsIn k h
-    pub polynomials : length (s .store) + deletedPolynomials k h ≡ introducedPolynomials k h
-    pub terms : storedTerms (s .store) + deletedTerms k h ≡ introducedTerms k h
+  record Carried (s : State) (h : List Statement) : Type 0 where
+    ringed : s .ring ≡ modulo k
+    begun : 0 < s .phase
+    ring-in : ringIn h ≡ k
+    distinct : Distinct (s .store)
+    finds : (i : ℕ) → find (s .store) i ≡ named k h i
+    products : s .products ≡ productsIn k h
+    polynomials : length (s .store) + deletedPolynomials h ≡ introducedPolynomials k h
+    terms : storedTerms (s .store) + deletedTerms k h ≡ introducedTerms k h
 
-  module _ (capacity : ℕ) (s : State) (h : List Statement) where
-    abbrev here : State
-    here = record { phase = s .phase; ring = modulo k; store = s .store; seen = s .seen; goal = s .goal; reached = s .reached; products = s .products }
+  module _ (s : State) (h : List Statement) (c : Carried (withRing k s) h) where
+    -- the same look-ups, so the same products
+    counted : (st : Statement) → s .products + productCount k (find (s .store)) st ≡ productsIn k (st ∷ h)
+    unfolding productsIn sumOver
+    counted st = ap₂ (λ (x : ℕ) (f : ℕ → Poly). x + productCount k f st) (c .products) (fun-ext (c .finds))
 
-    module _ (c : Carried here h) where
-      -- the same look-ups, so the same products
-      counted : (st : Statement) → s .products + productCount k (find (s .store)) st ≡ productsIn k (st ∷ h)
-      unfolding productsIn sumOver
-      counted st = ap₂ (λ (x : ℕ) (f : ℕ → Poly). x + productCount k f st) (c .products) (fun-ext (c .finds))
+    -- p stored under a free index i
+    module _ (i : ℕ) (p : Poly) (free : (stored (s .store) i || false) ≡ false) where
+      abbrev more : Store
+      more = s .store ++ (record { index = i; poly = p } ∷ [])
 
-      -- p stored under a free index i
-      module _ (i : ℕ) (p : Poly) (free : (stored (s .store) i || false) ≡ false) where
-        abbrev more : Store
-        more = s .store ++ (record { index = i; poly = p } ∷ [])
+      more-distinct : Distinct more
+      more-distinct = distinct-append (s .store) (record { index = i; poly = p }) (c .distinct) (or-none-left (stored (s .store) i) false free)
 
-        more-distinct : Distinct more
-        more-distinct = distinct-append (s .store) (record { index = i; poly = p }) (c .distinct) (or-none-left (stored (s .store) i) false free)
+      more-finds : (j : ℕ) → find more j ≡ cond (eqb j i || false) (cond (eqb j i) p []) (named k h j)
+      more-finds j = find-new (s .store) i p j (or-none-left (stored (s .store) i) false free) ∙ rw (c .finds j) (look (eqb j i) p (named k h j))
 
-        more-finds : (j : ℕ) → find more j ≡ cond (eqb j i || false) (cond (eqb j i) p []) (named k h j)
-        more-finds j = find-new (s .store) i p j (or-none-left (stored (s .store) i) false free) ∙ rw (c .finds j) (look (eqb j i) p (named k h j))
+      more-polynomials : length more + (deletedPolynomials h + 0) ≡ introducedPolynomials k h + 1
+      more-polynomials = omega (arith, length-append (s .store) (record { index = i; poly = p } ∷ []), c .polynomials)
 
-        more-polynomials : length more + (deletedPolynomials k h + 0) ≡ introducedPolynomials k h + 1
-        more-polynomials = omega (arith, length-append (s .store) (record { index = i; poly = p } ∷ []), c .polynomials)
+      more-terms : storedTerms more + (deletedTerms k h + 0) ≡ introducedTerms k h + storedTerms (record { index = i; poly = p } ∷ [])
+      more-terms = omega (arith, terms-append (s .store) (record { index = i; poly = p } ∷ []), c .terms)
 
-        more-terms : storedTerms more + (deletedTerms k h + 0) ≡ introducedTerms k h + storedTerms (record { index = i; poly = p } ∷ [])
-        more-terms = omega (arith, terms-append (s .store) (record { index = i; poly = p } ∷ []), c .terms)
-
-      next : (st : Statement) → Stands capacity here st → Carried (after here st) (st ∷ h)
-      unfolding place after entries newIndex namedIndices stored find any every ringIn named deletedPolynomials introducedPolynomials deletedTerms introducedTerms sumOver
-      next (ring j) st = absurd (omega (arith, st .placed, c .begun))
-      next (input i p) st = record {
-        ringed = refl;
-        begun = c .begun;
-        ring-in = c .ring-in;
-        distinct = more-distinct i (reduced k p) (st .free);
-        finds = more-finds i (reduced k p) (st .free);
-        products = counted (input i p);
-        polynomials = more-polynomials i (reduced k p) (st .free);
-        terms = more-terms i (reduced k p) (st .free);
-      }
-      next (goal p) st = record {
-        ringed = refl;
-        begun = omega arith;
-        ring-in = c .ring-in;
-        distinct = rw (append-nil (s .store)) (c .distinct);
-        finds = λ j. rw (append-nil (s .store)) (c .finds j);
-        products = counted (goal p);
-        polynomials = rw (append-nil (s .store)) (omega (arith, c .polynomials));
-        terms = rw (append-nil (s .store)) (omega (arith, c .terms, no-terms));
-      }
-      next (lin i p qs) st = record {
-        ringed = refl;
-        begun = c .begun;
-        ring-in = c .ring-in;
-        distinct = more-distinct i (reduced k p) (st .free);
-        finds = more-finds i (reduced k p) (st .free);
-        products = counted (lin i p qs);
-        polynomials = more-polynomials i (reduced k p) (st .free);
-        terms = more-terms i (reduced k p) (st .free);
-      }
-      next (del i) st =
-          let r = terms-remove (s .store) i (and-left (stored (s .store) i) true (st .present)) in
-          record {
-            ringed = refl;
-            begun = c .begun;
-            ring-in = c .ring-in;
-            distinct = distinct-remove (s .store) i (c .distinct);
-            finds = λ j. find-remove (s .store) i j (c .distinct) ∙ ap (λ (q : Poly). cond (eqb j i) [] q) (c .finds j);
-            products = counted (del i);
-            polynomials = omega (arith, c .polynomials, r .1);
-            terms = omega (arith, c .terms, r .0, ap length (c .finds i), no-terms);
-          }
-      next (ext i v p) st = record {
-        ringed = refl;
-        begun = c .begun;
-        ring-in = c .ring-in;
-        distinct = more-distinct i (extension k v (reduced k p)) (st .free);
-        finds = more-finds i (extension k v (reduced k p)) (st .free);
-        products = counted (ext i v p);
-        polynomials = more-polynomials i (extension k v (reduced k p)) (st .free);
-        terms = more-terms i (extension k v (reduced k p)) (st .free);
-      }
+    next : (capacity : ℕ) (st : Statement) → Stands capacity (withRing k s) st → Carried (after (withRing k s) st) (st ∷ h)
+    unfolding place after entries newIndex namedIndices stored find any every ringIn named deletedPolynomials introducedPolynomials deletedTerms introducedTerms sumOver
+    next capacity (ring j) st = absurd (omega (arith, st .placed, c .begun))
+    next capacity (input i p) st = record {
+      ringed = refl;
+      begun = c .begun;
+      ring-in = c .ring-in;
+      distinct = more-distinct i (reduced k p) (st .free);
+      finds = more-finds i (reduced k p) (st .free);
+      products = counted (input i p);
+      polynomials = more-polynomials i (reduced k p) (st .free);
+      terms = more-terms i (reduced k p) (st .free);
+    }
+    next capacity (goal p) st = record {
+      ringed = refl;
+      begun = omega arith;
+      ring-in = c .ring-in;
+      distinct = rw (append-nil (s .store)) (c .distinct);
+      finds = λ j. rw (append-nil (s .store)) (c .finds j);
+      products = counted (goal p);
+      polynomials = rw (append-nil (s .store)) (omega (arith, c .polynomials));
+      terms = rw (append-nil (s .store)) (omega (arith, c .terms, no-terms));
+    }
+    next capacity (lin i p qs) st = record {
+      ringed = refl;
+      begun = c .begun;
+      ring-in = c .ring-in;
+      distinct = more-distinct i (reduced k p) (st .free);
+      finds = more-finds i (reduced k p) (st .free);
+      products = counted (lin i p qs);
+      polynomials = more-polynomials i (reduced k p) (st .free);
+      terms = more-terms i (reduced k p) (st .free);
+    }
+    next capacity (del i) st =
+        let r = terms-remove (s .store) i (and-left (stored (s .store) i) true (st .present)) in
+        record {
+          ringed = refl;
+          begun = c .begun;
+          ring-in = c .ring-in;
+          distinct = distinct-remove (s .store) i (c .distinct);
+          finds = λ j. find-remove (s .store) i j (c .distinct) ∙ ap (λ (q : Poly). cond (eqb j i) [] q) (c .finds j);
+          products = counted (del i);
+          polynomials = omega (arith, c .polynomials, r .1);
+          terms = omega (arith, c .terms, r .0, ap length (c .finds i), no-terms);
+        }
+    next capacity (ext i v p) st = record {
+      ringed = refl;
+      begun = c .begun;
+      ring-in = c .ring-in;
+      distinct = more-distinct i (extension k v (reduced k p)) (st .free);
+      finds = more-finds i (extension k v (reduced k p)) (st .free);
+      products = counted (ext i v p);
+      polynomials = more-polynomials i (extension k v (reduced k p)) (st .free);
+      terms = more-terms i (extension k v (reduced k p)) (st .free);
+    }
 
   module _ (capacity : ℕ) where
     onward : (s : State) (h : List Statement) (st : Statement) → Carried s h → Stands capacity s st → Carried (after s st) (st ∷ h)
     onward s h st c stood =
-        subst (λ (x : State). Carried x h → Stands capacity x st → Carried (after x st) (st ∷ h)) (sym path) (λ c stood. next capacity s h c st stood) c stood
-      where
-        path : s ≡ here capacity s h
-        path = λ i. record { phase = s .phase; ring = c .ringed i; store = s .store; seen = s .seen; goal = s .goal; reached = s .reached; products = s .products }
+        by-ring k s (λ (x : State). Carried x h → Stands capacity x st → Carried (after x st) (st ∷ h)) (c .ringed) (λ c stood. next s h c capacity st stood) c stood
 
-    pub carried : {s e : State} {sts : List Statement} → Steps capacity s sts e → (h : List Statement) → Carried s h → Carried e (reverseAux sts h)
+    carried : {s e : State} {sts : List Statement} → Steps capacity s sts e → (h : List Statement) → Carried s h → Carried e (reverseAux sts h)
     carried done h c = c
     carried (step {s} st q r) h c = carried r (st ∷ h) (onward s h st c (stands-none capacity s st q))
 
 -- ---- from the start
 pub record Counted (k : ℕ) (s : State) (h : List Statement) : Type 0 where
   pub products : s .products ≡ productsIn k h
-  pub polynomials : length (s .store) + deletedPolynomials k h ≡ introducedPolynomials k h
+  pub polynomials : length (s .store) + deletedPolynomials h ≡ introducedPolynomials k h
   pub terms : storedTerms (s .store) + deletedTerms k h ≡ introducedTerms k h
 
 of-carried : (k : ℕ) (s : State) (h : List Statement) → Carried k s h → Counted (ringIn h) s h

@@ -5,7 +5,6 @@ pub mod Sound
 pub mod Accepted
 pub mod Store
 pub mod Counts
-pub mod Judging
 pub mod Running
 pub mod Numbers
 pub mod Reading

@@ -1,14 +1,12 @@
 -- What the tests of ranges say of a term, and choices by a test. Assumes nothing.
 use mathlib.Core.Path.{_≡_, ap}
 use mathlib.Core.Bool.{Bool, true, false, _&&_, cond}
-use Prim.Native.Nat.{ℕ, _≤_}
+use Prim.Native.Nat.{_≤_}
 use lib.Dec.{leb}
 use borrow.Author.Tests.{leb-true}
-use Rattle.ground.proofs.Congruence.{Same, same-refl}
 use Rattle.ground.specs.Lists.{every}
 use Rattle.ground.proofs.Tests.{and-left, and-right}
 use Rattle.limits.specs.Limits.{greatestMagnitude}
-use Rattle.algebra.proofs.Values.{keep}
 use Rattle.paper.specs.Statement.{WrittenTerm, isVariable, isTerm}
 
 pub record TermInRange (t : WrittenTerm) : Type 0 where
@@ -33,7 +31,3 @@ cond-yes {A} b x y e = ap (λ (c : Bool). cond c x y) e
 
 pub cond-no : {A : Type 0} (b : Bool) (x y : A) → b ≡ false → cond b x y ≡ y
 cond-no {A} b x y e = ap (λ (c : Bool). cond c x y) e
-
-pub keep-same : {M c d : ℕ} (b : Bool) → Same M c d → Same M (keep b c) (keep b d)
-keep-same true h = h
-keep-same false h = same-refl

@@ -20,7 +20,7 @@ use Rattle.paper.specs.Spelling.{spellDigits, spellNumber, spellCoeffici
 
 -- ---- numbers
 -- no digit comes next
-unfoldable pub noDigit : Bytes → Bool
+unfoldable noDigit : Bytes → Bool
 noDigit [] = true
 noDigit (b ∷ s) = not (isDigit b)
 
@@ -68,7 +68,7 @@ zero-back : (s : Bytes) → decimal (spellDigits 1 0 ++ s) ≡ got 0 s
 unfolding spellDigits decimal
 zero-back s = refl
 
-pub number-back : (n : ℕ) (s : Bytes) → noDigit s ≡ true → decimal (spellNumber n ++ s) ≡ got n s
+number-back : (n : ℕ) (s : Bytes) → noDigit s ≡ true → decimal (spellNumber n ++ s) ≡ got n s
 unfolding spellNumber
 number-back zero s h = zero-back s
 number-back (suc n) s h = decimal-digits (suc (suc n)) (suc n) s (omega arith) (omega arith) ∙ digits-stop (suc n) s h
@@ -87,7 +87,7 @@ unsigned (suc d) n s h =
 
 -- ---- as many items as follow
 -- the byte c does not come next
-unfoldable pub without : ℕ → Bytes → Bool
+unfoldable without : ℕ → Bytes → Bool
 without c [] = true
 without c (b ∷ s) = not (eqb b c)
 
@@ -127,17 +127,17 @@ module _ {A : Type 0} (c : ℕ) (item : Reader A) (spelled : A → Bytes) (ok : 
   gather-length [] = omega arith
   gather-length (x ∷ xs) = omega (arith, gather-length xs, length-append (spelled x) (gather (λ x. c ∷ spelled x) xs))
 
-  pub each-back : (xs : List A) (s : Bytes) → ok s ≡ true → without c s ≡ true → each c item (gather (λ x. c ∷ spelled x) xs ++ s) ≡ got xs s
+  each-back : (xs : List A) (s : Bytes) → ok s ≡ true → without c s ≡ true → each c item (gather (λ x. c ∷ spelled x) xs ++ s) ≡ got xs s
   each-back xs s o w =
       upTo-back (length (gather (λ x. c ∷ spelled x) xs ++ s)) xs s (omega (arith, gather-length xs, length-append (gather (λ x. c ∷ spelled x) xs) s)) o w
 
 -- ---- terms
-unfoldable pub spelledTerm : WrittenTerm → Bytes
+unfoldable spelledTerm : WrittenTerm → Bytes
 spelledTerm t =
     cond (t .negative) (code "-" ∷ spellNumber (t .magnitude)) (spellNumber (t .magnitude)) ++ gather (λ v. code "." ∷ spellNumber v) (t .variables)
 
 -- neither a digit nor a dot comes next
-unfoldable pub apart : Bytes → Bool
+unfoldable apart : Bytes → Bool
 apart s = noDigit s && without (code ".") s
 
 dots : List ℕ → Bytes
@@ -153,7 +153,7 @@ unfolding sign spellNumber
 sign-back true m s = refl
 sign-back false m s = unsigned (suc m) m s (omega arith)
 
-pub term-back : (t : WrittenTerm) (s : Bytes) → apart s ≡ true → term (spelledTerm t ++ s) ≡ got t s
+term-back : (t : WrittenTerm) (s : Bytes) → apart s ≡ true → term (spelledTerm t ++ s) ≡ got t s
 unfolding term spelledTerm apart dots noDigit isDigit
 term-back t s h =
     let n : noDigit s ≡ true = and-left (noDigit s) (without (code ".") s) h in
@@ -178,7 +178,7 @@ unfolding gather apart noDigit without isDigit
 spaces-apart [] = refl
 spaces-apart (t ∷ ts) = refl
 
-pub terms-back : (t : WrittenTerm) (ts : List WrittenTerm) → polynomial (spelledTerm t ++ gather (λ u. code " " ∷ spelledTerm u) ts) ≡ got (asWritten t ts) []
+terms-back : (t : WrittenTerm) (ts : List WrittenTerm) → polynomial (spelledTerm t ++ gather (λ u. code " " ∷ spelledTerm u) ts) ≡ got (asWritten t ts) []
 unfolding polynomial apart noDigit without isDigit
 terms-back t ts =
     ap (λ (r : Read WrittenTerm). next r more) (term-back t (gather (λ u. code " " ∷ spelledTerm u) ts) (spaces-apart ts))
@@ -192,6 +192,15 @@ terms-back t ts =
 pub whole-end : (s : Bytes) (p : Written) → polynomial s ≡ got p [] → wholeField s ≡ got p []
 unfolding wholeField end
 whole-end s p e = ap (λ (r : Read Written). next r (λ p s. next (end s) (λ _ r. got p r))) e
+
+some-terms : (t : WrittenTerm) (ts : List WrittenTerm) → 0 < t .magnitude → asWritten t ts ≡ t ∷ ts
+unfolding asWritten
+some-terms t [] h = rw (ne-eqb (t .magnitude) 0 (λ e. omega arith)) (go (not (t .negative)))
+  where
+    go : (b : Bool) → cond ((b && false) && elim (t .variables) [ [] ↦ true | v ∷ vs ↦ false ]) [] (t ∷ []) ≡ t ∷ []
+    go true = refl
+    go false = refl
+some-terms t (u ∷ ts) h = refl
 
 -- ---- the spelling of a polynomial
 module _ (k : ℕ) where
@@ -223,15 +232,6 @@ module _ (k : ℕ) where
   magnitude-some : (t : Term) → 0 < t .coef → t .coef < 2 ^ k → 0 < writtenTerm t .magnitude
   unfolding writtenTerm
   magnitude-some t h l = by-cond (λ (x : ℕ). 0 < x) (leb (t .coef) (2 ^ (k - 1))) (λ _. h) (λ _. omega arith)
-
-  some-terms : (t : WrittenTerm) (ts : List WrittenTerm) → 0 < t .magnitude → asWritten t ts ≡ t ∷ ts
-  unfolding asWritten
-  some-terms t [] h = rw (ne-eqb (t .magnitude) 0 (λ e. omega arith)) (go (not (t .negative)))
-    where
-      go : (b : Bool) → cond ((b && false) && elim (t .variables) [ [] ↦ true | v ∷ vs ↦ false ]) [] (t ∷ []) ≡ t ∷ []
-      go true = refl
-      go false = refl
-  some-terms t (u ∷ ts) h = refl
 
   zero-spelled : polynomial (spell k []) ≡ got [] []
   unfolding spell bytes polynomial term sign decimal upTo asWritten

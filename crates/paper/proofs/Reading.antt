@@ -105,15 +105,15 @@ module _ {allowed : ℕ → Bool} where
       omega (arith, ap length (a .rest), length-drop (a .taken) s)
 
   module _ {A B : Type 0} where
-    pub takes-then : {m n : ℕ} (read : Reader A) (f : A → Reader B) → Takes allowed m read → ((x : A) → Takes allowed n (f x)) → Takes allowed (m + n) (λ s. next (read s) f)
+    takes-then : {m n : ℕ} (read : Reader A) (f : A → Reader B) → Takes allowed m read → ((x : A) → Takes allowed n (f x)) → Takes allowed (m + n) (λ s. next (read s) f)
     takes-then read f a b s y t e =
         let p = parted (read s) f e in
         after-then (a s (p .value) (p .rest) (p .first)) (b (p .value) (p .rest) y t (p .second))
 
-  pub takes-give : {A : Type 0} (x : A) → Takes allowed 0 (give x)
+  takes-give : {A : Type 0} (x : A) → Takes allowed 0 (give x)
   takes-give x s y r e = let q : s ≡ r = cc in rw q (after-none r)
 
-  pub takes-upTo : {A : Type 0} {n : ℕ} (m c : ℕ) (item : Reader A) → allowed c ≡ true → Takes allowed n item → Takes allowed 0 (upTo m c item)
+  takes-upTo : {A : Type 0} {n : ℕ} (m c : ℕ) (item : Reader A) → allowed c ≡ true → Takes allowed n item → Takes allowed 0 (upTo m c item)
   unfolding upTo
   takes-upTo zero c item ok a s xs r e = let q : s ≡ r = cc in rw q (after-none r)
   takes-upTo (suc m) c item ok a [] xs r e = let q : [] ≡ r = cc in rw (← q) (after-none [])
@@ -133,7 +133,7 @@ module _ {allowed : ℕ → Bool} where
       go false d e ih = let q : (b ∷ s) ≡ r = cc in rw (← q) (after-none (b ∷ s))
 
 -- any byte
-abbrev pub byte : ℕ → Bool
+abbrev byte : ℕ → Bool
 byte b = true
 
 every-byte : (s : Bytes) → every byte s ≡ true
@@ -141,7 +141,7 @@ unfolding every
 every-byte [] = refl
 every-byte (b ∷ s) = every-byte s
 
-pub takes-bytes : {A : Type 0} {allowed : ℕ → Bool} {n : ℕ} (read : Reader A) → Takes allowed n read → Takes byte n read
+takes-bytes : {A : Type 0} {allowed : ℕ → Bool} {n : ℕ} (read : Reader A) → Takes allowed n read → Takes byte n read
 takes-bytes read a s x r e =
     let t = a s x r e in
     record { taken = t .taken; least = t .least; inside = t .inside; rest = t .rest; clear = every-byte (take (t .taken) s) }
@@ -156,7 +156,7 @@ digit-in-field b e =
     let l = leb-true 48 b (and-left (leb 48 b) (leb b 57) e) in
     rw (ne-eqb b 9 (λ q. omega arith))
 
-pub takes-digits : (n : ℕ) → Takes inField 0 (digits n)
+takes-digits : (n : ℕ) → Takes inField 0 (digits n)
 unfolding digits
 takes-digits n [] x r e = let q : [] ≡ r = cc in rw (← q) (after-none [])
 takes-digits n (b ∷ s) x r e = go (isDigit b) refl e (takes-digits (n * 10 + (b - code "0")) s)
@@ -176,7 +176,7 @@ takes-decimal (b ∷ s) x r e = go (eqb b (code "0")) (isDigit b) refl refl e
     go false true d f e = after-more (digit-in-field b f) (takes-digits (b - code "0") s x r e)
     go false false d f e = absurd (clash e)
 
-pub takes-sign : Takes inField 0 sign
+takes-sign : Takes inField 0 sign
 unfolding sign inField
 takes-sign [] x r e = let q : [] ≡ r = cc in rw (← q) (after-none [])
 takes-sign (b ∷ s) x r e = go (eqb b (code "-")) refl e
@@ -185,7 +185,7 @@ takes-sign (b ∷ s) x r e = go (eqb b (code "-")) refl e
     go true d e = let q : s ≡ r = cc in rw (← q) (after-least (omega arith) (after-more (rw (eqb-true b (code "-") d)) (after-none s)))
     go false d e = let q : (b ∷ s) ≡ r = cc in rw (← q) (after-none (b ∷ s))
 
-pub takes-each : {A : Type 0} {allowed : ℕ → Bool} {n : ℕ} (c : ℕ) (item : Reader A) → allowed c ≡ true → Takes allowed n item → Takes allowed 0 (each c item)
+takes-each : {A : Type 0} {allowed : ℕ → Bool} {n : ℕ} (c : ℕ) (item : Reader A) → allowed c ≡ true → Takes allowed n item → Takes allowed 0 (each c item)
 takes-each c item ok a s = takes-upTo (length s) c item ok a s
 
 pub takes-term : Takes inField 1 term
@@ -218,7 +218,7 @@ takes-tab : Takes byte 1 tab
 unfolding tab bytes
 takes-tab = takes-literal (bytes "\t")
 
-pub takes-field : Takes byte 2 field
+takes-field : Takes byte 2 field
 unfolding field
 takes-field = takes-then tab _ takes-tab (λ u. takes-bytes polynomial takes-polynomial)
 
@@ -229,7 +229,7 @@ takes-pair = takes-then decimal _ (takes-bytes decimal takes-decimal) (λ i. tak
 -- ---- as many items as follow
 module _ {A : Type 0} {allowed : ℕ → Bool} {n : ℕ} (c : ℕ) (item : Reader A) (takes : Takes allowed n item) where
   -- a bound past the bytes left changes nothing
-  pub upTo-enough : (m k : ℕ) (s : Bytes) → length s ≤ m → length s ≤ k → upTo m c item s ≡ upTo k c item s
+  upTo-enough : (m k : ℕ) (s : Bytes) → length s ≤ m → length s ≤ k → upTo m c item s ≡ upTo k c item s
   unfolding upTo
   upTo-enough zero zero s h l = refl
   upTo-enough zero (suc k) [] h l = refl

@@ -1,4 +1,4 @@
--- A run, line by line: what follows a line that stands, one that is refused, and the last. Assumes nothing.
+-- What judging a line gives, and how a run goes on after it. Assumes nothing.
 use mathlib.Core.Path.{_≡_, refl}
 use mathlib.Core.List.{List, _∷_}
 use Prim.Native.Nat.{ℕ, suc, _≤_, _<_}
@@ -8,11 +8,15 @@ use Rattle.limits.specs.Limits.{lineBytes}
 use Rattle.limits.specs.Verdicts.{LONGLINE, FORM}
 use Rattle.paper.specs.Grammar.{Bytes, Line, got, stuck, statement}
 use Rattle.paper.specs.Statement.{Statement}
-use Rattle.paper.specs.Rules.{State}
+use Rattle.paper.specs.Rules.{first, State, rules, after}
 use Rattle.paper.specs.Answer.{stands, refused, judge, judgeLine, report, run}
 
 module _ (capacity : ℕ) (s : State) where
   -- ---- one line
+  pub judge-stands : (st : Statement) → first (rules capacity s st) ≡ 0 → judge capacity s st ≡ stands (after s st)
+  unfolding judge
+  judge-stands st e = rw e refl
+
   pub line-long : (l : Line) → lineBytes < length (l .content) → judgeLine capacity s l ≡ refused LONGLINE 0
   unfolding judgeLine
   line-long l h = rw (lt-ltb lineBytes (length (l .content)) h) refl

@@ -1,5 +1,5 @@
 -- Statements that stand make a derivation: what they introduce is derived from the inputs, and a goal that is reached is forced. Assumes nothing.
-use mathlib.Core.Path.{_≡_, refl, sym, ap, _∙_, subst}
+use mathlib.Core.Path.{_≡_, refl, sym, ap, _∙_}
 use mathlib.Core.Bool.{Bool, true, false, _||_, cond}
 use mathlib.Core.Logic.{⊎-elim}
 use mathlib.Core.List.{List, [], _∷_, _++_, map}
@@ -11,7 +11,7 @@ use lib.Dec.{eqb}
 use borrow.Author.Tests.{not-false, eqb-true, eqb-false}
 use Rattle.ground.specs.Lists.{any, gather}
 use Rattle.ground.proofs.Tests.{split, or-cases}
-use Rattle.algebra.specs.Polynomial.{bit, Apart, Poly, vars, products, reduce, product, extension, allVars, AllZero, Forced, Derived, input as inputOf, forced, defined}
+use Rattle.algebra.specs.Polynomial.{bit, Apart, Poly, vars, reduce, product, extension, allVars, AllZero, Forced, Derived, input as inputOf, forced, defined}
 use Rattle.algebra.proofs.Sets.{bit-or, bit-lt, bit-of-zero, bit-pow-other, has-false, has-none}
 use Rattle.algebra.proofs.Bit.{equal-true}
 use Rattle.algebra.proofs.Variables.{vars-extension}
@@ -21,7 +21,7 @@ use Rattle.paper.specs.Statement.{Written, Pair, Statement, ring, input,
 use Rattle.paper.specs.Rules.{modulo, inputs, steps, find, State, place, entries, makesSeen, combination, holdsGoal, rules, after}
 use Rattle.paper.specs.Answer.{inputsIn, goalIn, introducedIn, definedIn}
 use Rattle.paper.proofs.Stands.{Stands, stands-none}
-use Rattle.paper.proofs.Steps.{Steps, done, step}
+use Rattle.paper.proofs.Steps.{withRing, by-ring, Steps, done, step}
 use Rattle.paper.proofs.Zeros.{StoreZero, zero-append, zero-remove, zero-goal, zero-stated}
 
 -- the variable that a statement defines
@@ -29,12 +29,37 @@ abbrev defines : Statement → ℕ
 defines = onExt 0 (λ i v p. 2 ^ v)
 
 -- the goal that is in force, or is still to come
-abbrev pub aimOf : ℕ → State → List Statement → Poly
+abbrev aimOf : ℕ → State → List Statement → Poly
 aimOf k s sts = cond (eqb (s .phase) steps) (s .goal) (goalIn k sts)
 
 none-more : (b : Bool) → (b || false) ≡ true → b ≡ true
 none-more true e = refl
 none-more false e = e
+
+-- ---- what a statement makes seen
+seen-own : (d n m v : ℕ) → bit d v ≤ bit (bitOr (bitOr d n) m) v
+seen-own d n m v = omega (arith, bit-or (bitOr d n) m v, bit-or d n v)
+
+seen-first : (d : ℕ) (p : Poly) (ps : List Poly) (m v : ℕ) → bit (vars p) v ≤ bit (bitOr (bitOr d (allVars (p ∷ ps))) m) v
+unfolding allVars
+seen-first d p ps m v =
+    omega (arith, bit-or (bitOr d (bitOr (vars p) (allVars ps))) m v, bit-or d (bitOr (vars p) (allVars ps)) v, bit-or (vars p) (allVars ps) v)
+
+all-in : (p : Poly) (ps : List Poly) (m v : ℕ) → bit (vars p) v ≤ bit m v → bit (allVars ps) v ≤ bit m v → bit (allVars (p ∷ ps)) v ≤ bit m v
+unfolding allVars
+all-in p ps m v h g = omega (arith, bit-or (vars p) (allVars ps) v)
+
+apart-zero : (m : ℕ) {es : ℕ} → es ≡ 0 → Apart es m
+apart-zero m e = record { at = λ v h. absurd (omega (arith, bit-of-zero v, ap (λ (x : ℕ). bit x v) e)) }
+
+-- a goal whose variables are all in m stays apart from a definition of v, which is not
+apart-more : (es v m : ℕ) (g : Poly) → ((w : ℕ) → bit (vars g) w ≤ bit m w) → bit m v ≡ 0 → Apart es (vars g) → Apart (bitOr (2 ^ v) es) (vars g)
+apart-more es v m g h z a = record {
+  at = λ w e. ⊎-elim
+      (λ t. omega (arith, h v, ap (λ (x : ℕ). bit (vars g) x) (eqb-true w v t)))
+      (λ t. a .at w (omega (arith, bit-or (2 ^ v) es w, bit-pow-other v w (eqb-false w v t), bit-lt es w)))
+      (split (eqb w v));
+}
 
 module _ (k : ℕ) where
   -- ---- what holds between two lines: a derivation of ps from is, with definitions for es
@@ -49,49 +74,20 @@ module _ (k : ℕ) where
     pub apart : Apart es (vars (s .goal))
     pub hit : s .reached ≡ true → Forced k ps (s .goal)
 
-  -- ---- what a statement makes seen
-  seen-own : (d n m v : ℕ) → bit d v ≤ bit (bitOr (bitOr d n) m) v
-  seen-own d n m v = omega (arith, bit-or (bitOr d n) m v, bit-or d n v)
-
-  seen-first : (d : ℕ) (p : Poly) (ps : List Poly) (m v : ℕ) → bit (vars p) v ≤ bit (bitOr (bitOr d (allVars (p ∷ ps))) m) v
-  unfolding allVars
-  seen-first d p ps m v =
-      omega (arith, bit-or (bitOr d (bitOr (vars p) (allVars ps))) m v, bit-or d (bitOr (vars p) (allVars ps)) v, bit-or (vars p) (allVars ps) v)
-
-  all-in : (p : Poly) (ps : List Poly) (m v : ℕ) → bit (vars p) v ≤ bit m v → bit (allVars ps) v ≤ bit m v → bit (allVars (p ∷ ps)) v ≤ bit m v
-  unfolding allVars
-  all-in p ps m v h g = omega (arith, bit-or (vars p) (allVars ps) v)
-
-  apart-zero : (m : ℕ) {es : ℕ} → es ≡ 0 → Apart es m
-  apart-zero m e = record { at = λ v h. absurd (omega (arith, bit-of-zero v, ap (λ (x : ℕ). bit x v) e)) }
-
-  -- a goal whose variables are all in m stays apart from a definition of v, which is not
-  apart-more : (es v m : ℕ) (g : Poly) → ((w : ℕ) → bit (vars g) w ≤ bit m w) → bit m v ≡ 0 → Apart es (vars g) → Apart (bitOr (2 ^ v) es) (vars g)
-  apart-more es v m g h z a = record {
-    at = λ w e. ⊎-elim
-        (λ t. omega (arith, h v, ap (λ (x : ℕ). bit (vars g) x) (eqb-true w v t)))
-        (λ t. a .at w (omega (arith, bit-or (2 ^ v) es w, bit-pow-other v w (eqb-false w v t), bit-lt es w)))
-        (split (eqb w v));
-  }
-
   forced-more : {ps : List Poly} {g : Poly} (p : Poly) → Forced k ps g → Forced k (p ∷ ps) g
   forced-more p f = record { at = λ b z. f .at b (z .1) }
 
   -- ---- one statement
-  module _ (capacity : ℕ) (s : State) where
-    -- s, whose ring is known
-    abbrev here : State
-    here = record { phase = s .phase; ring = modulo k; store = s .store; seen = s .seen; goal = s .goal; reached = s .reached; products = s .products }
-
+  module _ (s : State) where
     abbrev Next : Statement → List Poly → ℕ → List Poly → Type 0
     Next st is es ps =
-        Good (after here st) (onInput [] (λ i p. reduced k p ∷ []) st ++ is) (onExt es (λ i v p. bitOr (2 ^ v) es) st) (map (λ e. e .poly) (entries k st) ++ ps)
+        Good (after (withRing k s) st) (onInput [] (λ i p. reduced k p ∷ []) st ++ is) (onExt es (λ i v p. bitOr (2 ^ v) es) st) (map (λ e. e .poly) (entries k st) ++ ps)
 
-    old : (st : Statement) (v : ℕ) → bit (s .seen) v ≤ bit (after here st .seen) v
+    old : (st : Statement) (v : ℕ) → bit (s .seen) v ≤ bit (after (withRing k s) st .seen) v
     unfolding after
     old st v = omega (arith, bit-or (makesSeen k st) (s .seen) v)
 
-    module _ (is : List Poly) (es : ℕ) (ps : List Poly) (g : Good here is es ps) where
+    module _ (is : List Poly) (es : ℕ) (ps : List Poly) (g : Good (withRing k s) is es ps) where
       next-input : (i : ℕ) (p : Written) → s .phase ≡ inputs → Next (input i p) is es ps
       unfolding after entries makesSeen fields
       next-input i p ph = record {
@@ -127,10 +123,9 @@ module _ (k : ℕ) where
           (λ t. record { at = λ b z. zero-goal k b (s .goal) (record { index = i; poly = p } ∷ []) (z .0, tt) t })
           (or-cases (s .reached) (holdsGoal (s .goal) (record { index = i; poly = p } ∷ [])) e)
 
-      next-lin : (i : ℕ) (p : Written) (qs : List Pair) → s .phase ≡ steps
-          → reduced k p ≡ reduce k (combination k (find (s .store)) qs) → Next (lin i p qs) is es ps
+      next-lin : (i : ℕ) (p : Written) (qs : List Pair) → reduced k p ≡ reduce k (combination k (find (s .store)) qs) → Next (lin i p qs) is es ps
       unfolding after entries makesSeen fields
-      next-lin i p qs ph e = record {
+      next-lin i p qs e = record {
         ringed = refl;
         begun = g .begun;
         derived = forced (reduced k p) (record { at = λ b z. zero-stated k b (reduced k p) qs (s .store) (g .kept b z) e }) (g .derived);
@@ -182,25 +177,25 @@ module _ (k : ℕ) where
           fresh : bit (bitOr (vars r) (allVars ps)) v ≡ 0
           fresh = omega (arith, unseen, bit-or (vars r) (s .seen) v, bit-or (vars r) (allVars ps) v, g .witnessed v)
 
-      next : (st : Statement) → Stands capacity here st → Next st is es ps
+      next : (capacity : ℕ) (st : Statement) → Stands capacity (withRing k s) st → Next st is es ps
       unfolding place rules
-      next (ring j) h = absurd (omega (arith, h .placed, g .begun))
-      next (input i p) h = next-input i p (sym (h .placed))
-      next (goal p) h = next-goal p (sym (h .placed))
-      next (lin i p qs) h = next-lin i p qs (sym (h .placed)) (equal-true (reduced k p) (reduce k (combination k (find (s .store)) qs)) (not-false _ (h .passed MISMATCH)))
-      next (del i) h = next-del i
-      next (ext i v p) h =
+      next capacity (ring j) h = absurd (omega (arith, h .placed, g .begun))
+      next capacity (input i p) h = next-input i p (sym (h .placed))
+      next capacity (goal p) h = next-goal p (sym (h .placed))
+      next capacity (lin i p qs) h = next-lin i p qs (equal-true (reduced k p) (reduce k (combination k (find (s .store)) qs)) (not-false _ (h .passed MISMATCH)))
+      next capacity (del i) h = next-del i
+      next capacity (ext i v p) h =
           next-ext i v p (sym (h .placed)) (has-false (bitOr (vars (reduced k p)) (s .seen)) v (h .passed SEEN))
           (equal-true (product k (reduced k p) (reduced k p)) (reduced k p) (not-false _ (h .passed NOTBIT)))
 
-      aim-next : (st : Statement) (sts : List Statement) → Stands capacity here st → aimOf k (after here st) sts ≡ aimOf k here (st ∷ sts)
+      aim-next : (capacity : ℕ) (st : Statement) (sts : List Statement) → Stands capacity (withRing k s) st → aimOf k (after (withRing k s) st) sts ≡ aimOf k (withRing k s) (st ∷ sts)
       unfolding after goalIn place
-      aim-next (ring j) sts h = absurd (omega (arith, h .placed, g .begun))
-      aim-next (input i p) sts h = refl
-      aim-next (goal p) sts h = let e : s .phase ≡ inputs = sym (h .placed) in rw e refl
-      aim-next (lin i p qs) sts h = refl
-      aim-next (del i) sts h = refl
-      aim-next (ext i v p) sts h = refl
+      aim-next capacity (ring j) sts h = absurd (omega (arith, h .placed, g .begun))
+      aim-next capacity (input i p) sts h = refl
+      aim-next capacity (goal p) sts h = let e : s .phase ≡ inputs = sym (h .placed) in rw e refl
+      aim-next capacity (lin i p qs) sts h = refl
+      aim-next capacity (del i) sts h = refl
+      aim-next capacity (ext i v p) sts h = refl
 
   -- ---- many statements: those of sts on top of what was there
   pub record Final (s : State) (sts : List Statement) (is : List Poly) (es : ℕ) (ps : List Poly) (e : State) : Type 0 where
@@ -228,13 +223,10 @@ module _ (k : ℕ) where
         → ((is : List Poly) (es : ℕ) (ps : List Poly) → Good (after s st) is es ps → Final (after s st) sts is es ps e) → Final s (st ∷ sts) is es ps e
     unfolding inputsIn introducedIn definedIn gather
     onward s e st sts is es ps g h rest =
-        subst (λ (x : State). Good x is es ps → Stands capacity x st
+        by-ring k s (λ (x : State). Good x is es ps → Stands capacity x st
         → ((is : List Poly) (es : ℕ) (ps : List Poly) → Good (after x st) is es ps → Final (after x st) sts is es ps e) → Final x (st ∷ sts) is es ps e)
-        (sym path) go g h rest
+        (g .ringed) go g h rest
       where
-        path : s ≡ here capacity s
-        path = λ i. record { phase = s .phase; ring = g .ringed i; store = s .store; seen = s .seen; goal = s .goal; reached = s .reached; products = s .products }
-
         mine : List Poly
         mine = onInput [] (λ i p. reduced k p ∷ []) st
 
@@ -244,11 +236,11 @@ module _ (k : ℕ) where
         es′ : ℕ
         es′ = onExt es (λ i v p. bitOr (2 ^ v) es) st
 
-        go : Good (here capacity s) is es ps → Stands capacity (here capacity s) st
-            → ((is : List Poly) (es : ℕ) (ps : List Poly) → Good (after (here capacity s) st) is es ps → Final (after (here capacity s) st) sts is es ps e)
-            → Final (here capacity s) (st ∷ sts) is es ps e
+        go : Good (withRing k s) is es ps → Stands capacity (withRing k s) st
+            → ((is : List Poly) (es : ℕ) (ps : List Poly) → Good (after (withRing k s) st) is es ps → Final (after (withRing k s) st) sts is es ps e)
+            → Final (withRing k s) (st ∷ sts) is es ps e
         go g h rest =
-            let f = rest (mine ++ is) es′ (made ++ ps) (next capacity s is es ps g st h) in
+            let f = rest (mine ++ is) es′ (made ++ ps) (next s is es ps g capacity st h) in
             record {
               inputs′ = f .inputs′;
               defined′ = f .defined′;
@@ -258,7 +250,7 @@ module _ (k : ℕ) where
               before = λ b z. zero-right k b made ps (f .before b z);
               new = λ b z. zero-both k b made (introducedIn k sts) (zero-left k b made ps (f .before b z)) (f .new b z);
               only = λ w n d. f .only w (none-defined st es w n (omega (arith, bit-or (defines st) (definedIn sts) w))) (omega (arith, bit-or (defines st) (definedIn sts) w));
-              aim = f .aim ∙ aim-next capacity s is es ps g st sts h;
+              aim = f .aim ∙ aim-next s is es ps g capacity st sts h;
             }
 
     pub final : {s e : State} {sts : List Statement} → Steps capacity s sts e → (is : List Poly) (es : ℕ) (ps : List Poly) → Good s is es ps → Final s sts is es ps e

@@ -14,14 +14,14 @@ use Rattle.ground.specs.Lists.{every}
 use Rattle.ground.proofs.Tests.{by-cond, and-left, and-right}
 use Rattle.limits.specs.Limits.{variables}
 use Rattle.algebra.specs.Polynomial.{members, Term, Poly, sumIf, coefOf, Below, Reduced}
-use Rattle.algebra.proofs.Values.{keep}
+use Rattle.algebra.proofs.Values.{keep, keep-same}
 use Rattle.algebra.proofs.Reduced.{is-reduce}
 use Rattle.paper.specs.Statement.{Written, isVariable, isTerm, inRange, setOf, asTerm, reduced}
-use Rattle.paper.proofs.Ranges.{term-in-range, keep-same}
+use Rattle.paper.proofs.Ranges.{term-in-range}
 use Rattle.paper.proofs.ReadBack.{writtenTerm}
 
 -- ---- sets
-pub set-of-members : (n v m : ℕ) → m < 2 ^ n → setOf (members n v m) ≡ m * 2 ^ v
+set-of-members : (n v m : ℕ) → m < 2 ^ n → setOf (members n v m) ≡ m * 2 ^ v
 unfolding setOf members
 set-of-members zero v m h = let z : m ≡ 0 = omega arith in rw z (sym (zero-mul (2 ^ v)))
 set-of-members (suc n) v m h =
@@ -35,11 +35,11 @@ set-of-members (suc n) v m h =
     ∙ omega (arith, w, add-mul (m / 2 * 2) 1 (2 ^ v), ap (λ (x : ℕ). x * 2 ^ v) o))
     (λ e. let o : m ≡ m / 2 * 2 = omega (arith, eqb-false (m % 2) 1 e) in ih ∙ w ∙ ap (λ (x : ℕ). x * 2 ^ v) (sym o))
 
-pub set-back : (m : ℕ) → m < 2 ^ variables → setOf (members variables 0 m) ≡ m
+set-back : (m : ℕ) → m < 2 ^ variables → setOf (members variables 0 m) ≡ m
 set-back m h = set-of-members variables 0 m h ∙ mul-one m
 
 -- the sets of a field in range
-pub set-lt : (vs : List ℕ) → every isVariable vs ≡ true → setOf vs < 2 ^ variables
+set-lt : (vs : List ℕ) → every isVariable vs ≡ true → setOf vs < 2 ^ variables
 unfolding every isVariable setOf
 set-lt [] e = pow-pos variables
 set-lt (v ∷ vs) e =

@@ -18,11 +18,11 @@ past true v w h e = absurd (omega arith)
 past false v w h e = (refl, e)
 
 -- the test in the row of a verdict
-abbrev pub testOf : ℕ → List (ℕ × Bool) → Bool
+abbrev testOf : ℕ → List (ℕ × Bool) → Bool
 testOf v [] = false
 testOf v (r ∷ rs) = cond (eqb v (r .0)) (r .1) (testOf v rs)
 
-pub none-refuses : (rs : List (ℕ × Bool)) → every (λ r. ltb 0 (r .0)) rs ≡ true → first rs ≡ 0 → (v : ℕ) → testOf v rs ≡ false
+none-refuses : (rs : List (ℕ × Bool)) → every (λ r. ltb 0 (r .0)) rs ≡ true → first rs ≡ 0 → (v : ℕ) → testOf v rs ≡ false
 unfolding first every
 none-refuses [] h e v = refl
 none-refuses (r ∷ rs) h e v =

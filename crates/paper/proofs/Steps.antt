@@ -11,7 +11,7 @@ use Rattle.ground.specs.Lists.{gather}
 use Rattle.ground.proofs.Tests.{by-cond}
 use Rattle.limits.specs.Limits.{lineBytes}
 use Rattle.limits.specs.Verdicts.{LONGLINE, FORM, NOGOAL, NOTREACHED}
-use Rattle.paper.specs.Rules.{first, steps, storedTerms, State, start, place, rules, after}
+use Rattle.paper.specs.Rules.{first, modulo, steps, storedTerms, State, start, place, rules, after}
 use Rattle.paper.specs.Grammar.{Line, Read, got, stuck, statement}
 use Rattle.paper.specs.Statement.{Statement, ring, input, goal, lin, del, ext}
 use Rattle.paper.specs.Answer.{Answer, Outcome, stands, refused, judge, judgeLine, report, ending, run, ifRead, acceptedFrom}
@@ -19,6 +19,16 @@ use Rattle.paper.proofs.Stands.{stands-none}
 
 positive : (n : ℕ) → (n ≡ 0 → ⊥) → 0 < n
 positive n h = omega (arith, h)
+
+-- ---- a state whose ring is known: what is shown of it is shown of the state
+abbrev pub withRing : ℕ → State → State
+withRing k s = record { phase = s .phase; ring = modulo k; store = s .store; seen = s .seen; goal = s .goal; reached = s .reached; products = s .products }
+
+pub by-ring : (k : ℕ) (s : State) (P : State → Type 0) → s .ring ≡ modulo k → P (withRing k s) → P s
+by-ring k s P e = subst P (sym path)
+  where
+    path : s ≡ withRing k s
+    path = λ i. record { phase = s .phase; ring = e i; store = s .store; seen = s .seen; goal = s .goal; reached = s .reached; products = s .products }
 
 module _ (capacity : ℕ) where
   -- from s to e by statements that stand, in the order of the text

@@ -18,7 +18,7 @@ abbrev pub Distinct : Store → Type 0
 Distinct [] = Unit {0}
 Distinct (e ∷ s) = (stored s (e .index) ≡ false) × Distinct s
 
-pub find-none : (s : Store) (i : ℕ) → stored s i ≡ false → find s i ≡ []
+find-none : (s : Store) (i : ℕ) → stored s i ≡ false → find s i ≡ []
 unfolding stored find any
 find-none [] i h = refl
 find-none (e ∷ s) i h =
@@ -74,7 +74,7 @@ distinct-append (x ∷ s) e d h = (
         absurd (eqb-false (e .index) (x .index) (or-none-left (eqb (e .index) (x .index)) (stored s (e .index)) h) (sym (eqb-true (x .index) (e .index) q)))
 
 -- ---- removing
-pub stored-remove : (s : Store) (i j : ℕ) → stored s j ≡ false → stored (remove s i) j ≡ false
+stored-remove : (s : Store) (i j : ℕ) → stored s j ≡ false → stored (remove s i) j ≡ false
 unfolding stored remove any
 stored-remove [] i j h = refl
 stored-remove (e ∷ s) i j h =

@@ -26,7 +26,7 @@ module _ (k : ℕ) where
   zero-append a [] t h g = g
   zero-append a (e ∷ s) t h g = (h .0, zero-append a s t (h .1) g)
 
-  pub zero-find : (a i : ℕ) (s : Store) → StoreZero a s → value k a (find s i) ≡ 0
+  zero-find : (a i : ℕ) (s : Store) → StoreZero a s → value k a (find s i) ≡ 0
   unfolding find
   zero-find a i [] h = value-none k a
   zero-find a i (e ∷ s) h = by-cond (λ (p : Poly). value k a p ≡ 0) (eqb i (e .index)) (λ t. h .0) (λ t. zero-find a i s (h .1))
@@ -44,7 +44,7 @@ module _ (k : ℕ) where
       (or-cases (equal (x .poly) g) (any (λ e. equal (e .poly) g) s) e)
 
   -- a combination of stored polynomials is zero where they are
-  pub zero-combination : (a : ℕ) (qs : List Pair) (s : Store) → StoreZero a s → Same (2 ^ k) (sumAt a (combination k (find s) qs)) 0
+  zero-combination : (a : ℕ) (qs : List Pair) (s : Store) → StoreZero a s → Same (2 ^ k) (sumAt a (combination k (find s) qs)) 0
   unfolding combination value
   zero-combination a [] s h = same-refl
   zero-combination a (q ∷ qs) s h =

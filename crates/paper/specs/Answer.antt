@@ -53,6 +53,7 @@ run capacity s n (l ∷ ls) = elim (judgeLine capacity s l) [ stands s′ ↦ ru
 unfoldable pub capacityOf : ℕ → ℕ
 capacityOf pool = min (pool / termWords) mostPoolTerms
 
+-- where the text is not read
 unfoldable pub unread : ℕ → Answer
 unread v = record { verdict = v; line = 0; index = 0; products = 0; polynomials = 0; terms = 0 }
 
@@ -94,6 +95,9 @@ unfoldable pub sumOver : (List Statement → Statement → ℕ) → List Stateme
 sumOver f [] = 0
 sumOver f (st ∷ h) = sumOver f h + f h st
 
+unfoldable pub deletedPolynomials : List Statement → ℕ
+deletedPolynomials = sumOver (λ h. onDel 0 (λ i. 1))
+
 module _ (k : ℕ) where
   unfoldable pub inputsIn : List Statement → List Poly
   inputsIn sts = gather (onInput [] (λ i p. reduced k p ∷ [])) sts
@@ -116,9 +120,6 @@ module _ (k : ℕ) where
 
   unfoldable pub introducedPolynomials : List Statement → ℕ
   introducedPolynomials = sumOver (λ h st. length (entries k st))
-
-  unfoldable pub deletedPolynomials : List Statement → ℕ
-  deletedPolynomials = sumOver (λ h. onDel 0 (λ i. 1))
 
   unfoldable pub introducedTerms : List Statement → ℕ
   introducedTerms = sumOver (λ h st. storedTerms (entries k st))

@@ -48,13 +48,11 @@ _>>_ r q = λ s. next (r s) (λ _. q)
 abbrev pub give : {A : Type 0} → A → Reader A
 give a = λ s. got a s
 
--- these bytes
 unfoldable pub literal : Bytes → Reader (Unit {0})
 literal [] s = got tt s
 literal (c ∷ w) [] = stuck []
 literal (c ∷ w) (b ∷ s) = cond (eqb b c) (literal w s) (stuck (b ∷ s))
 
--- nothing more
 unfoldable pub end : Reader (Unit {0})
 end [] = got tt []
 end (b ∷ s) = stuck (b ∷ s)
@@ -128,6 +126,7 @@ beginsAlike [] s = false
 beginsAlike (c ∷ w) [] = false
 beginsAlike (c ∷ w) (b ∷ s) = eqb b c
 
+-- the kind whose keyword begins as the line does
 unfoldable pub oneOf : List (Bytes × Reader Statement) → Reader Statement
 oneOf [] s = stuck s
 oneOf (k ∷ ks) s = let read : Read Statement = (do literal (k .0); st ← k .1; end; give st) s in cond (beginsAlike (k .0) s) read (oneOf ks s)

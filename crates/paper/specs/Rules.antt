@@ -33,6 +33,9 @@ pub record Entry : Type 0 where
 abbrev pub Store : Type 0
 Store = List Entry
 
+abbrev pub entry : ℕ → Poly → Store
+entry i p = record { index = i; poly = p } ∷ []
+
 unfoldable pub stored : Store → ℕ → Bool
 stored s i = any (λ e. eqb i (e .index)) s
 
@@ -67,9 +70,6 @@ unfoldable pub place : Statement → ℕ
 place st = elim st [ ring k ↦ opening | input i p ↦ inputs | goal p ↦ inputs | lin i p qs ↦ steps | del i ↦ steps | ext i v p ↦ steps ]
 
 module _ (k : ℕ) where
-  abbrev pub entry : ℕ → Poly → Store
-  entry i p = record { index = i; poly = p } ∷ []
-
   -- what a statement stores: an ext -v + p, the others the polynomial they state
   unfoldable pub entries : Statement → Store
   entries st = elim st [ ring j ↦ [] | input i p ↦ entry i (reduced k p) | goal p ↦ [] | lin i p qs ↦ entry i (reduced k p) | del i ↦ [] | ext i v p ↦ entry i (extension k v (reduced k p)) ]
@@ -113,7 +113,7 @@ rules capacity s st =
     ∷ (FULL, overfull capacity (s .store) (entries k st))
     ∷ []
 
--- ---- what a statement that stands changes; first, whether some stored polynomial is g
+-- ---- what a statement that stands changes; nothing is reached before the goal line; first, whether some stored polynomial is g
 unfoldable pub holdsGoal : Poly → Store → Bool
 holdsGoal g s = any (λ e. equal (e .poly) g) s
 

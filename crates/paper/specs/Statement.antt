@@ -83,7 +83,7 @@ numbersInRange st =
 unfoldable pub tooManyTerms : Written → Bool
 tooManyTerms p = ltb fieldTerms (length p)
 
--- ---- meaning
+-- ---- meaning; the coefficient -1 is 2 ^ k - 1
 unfoldable pub setOf : List ℕ → ℕ
 setOf [] = 0
 setOf (v ∷ vs) = bitOr (2 ^ v) (setOf vs)

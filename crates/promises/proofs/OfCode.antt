@@ -3,12 +3,13 @@ use mathlib.Core.Path.{_≡_, sym, ap, _∙_}
 use mathlib.Core.List.{List}
 use Prim.Native.Nat.{ℕ}
 use lib.ListN.{length}
+use Rattle.ground.proofs.Decided.{by-equation}
 use Rattle.paper.specs.Answer as paper
 use Rattle.paper.specs.Answer.{roomAfter}
 use Rattle.checker.specs.declared.answer.Answer.{Answer}
 use Rattle.checker.specs.Checked.{answerOf}
 use Rattle.limits.specs.Limits.{hostPool, hostScratch}
-use Rattle.lpac_host.proofs.Hosting.{hosted-one, hosted-verdict, hosted-line, hosted-accepted}
+use Rattle.lpac_host.proofs.Hosting.{hosted-verdict, hosted-line, hosted-accepted}
 use Rattle.promises.specs.Promises.{Decided, CheckedIsSound, HostDecided, HostTells, HostedIsSound}
 use Rattle.promises.proofs.Promises.{accepted-is-sound}
 
@@ -37,7 +38,7 @@ checked-is-sound text pool scratch a p q c e =
     accepted-is-sound text (length pool) (length scratch) (sym (ap (λ (x : paper.Answer). x .verdict) (c .answer)) ∙ e)
 
 pub host-decided : HostDecided
-host-decided = hosted-one
+host-decided text r s = by-equation
 
 pub host-tells : HostTells
 host-tells text r h = (hosted-verdict text r h, hosted-line text r h)

@@ -29,6 +29,7 @@ field k f s =
     let r : Spelled = spellField (bytes f) k leastSpellingScratch lineBytes in
     record { found = r .verdict ∷ r .spelling; said = ACCEPTED ∷ bytes s }
 
+-- 1 to 4; 5 to 8, of which the sixth has two; 9 to 11, of which the ninth and the last have two
 pub samples : List Sample
 samples =
     text "ring\t8\nin\t1\t-1.2 1.0.1\ngoal\t1.2 -1.0.2\nlin\t2\t1.2 -1.0.2\t1\t1.0 -1\n" (0 ∷ 0 ∷ 0 ∷ 4 ∷ 2 ∷ 4 ∷ [])

@@ -49,7 +49,7 @@ AcceptedIsSound = (text : Bytes) (pool scratch : ℕ) → answer text pool scrat
 -- ---- the counts of an answer are the sums over the accepted statements h
 pub record Counted (a : Answer) (h : List Statement) (k : ℕ) : Type 0 where
   pub products : a .products ≡ productsIn k h
-  pub polynomials : a .polynomials + deletedPolynomials k h ≡ introducedPolynomials k h
+  pub polynomials : a .polynomials + deletedPolynomials h ≡ introducedPolynomials k h
   pub terms : a .terms + deletedTerms k h ≡ introducedTerms k h
 
 abbrev pub CountsAreSums : Type 0
