@@ -1,4 +1,4 @@
--- Whether a goal is one of the stored polynomials, and runs in the rests of slices compared. Assumes nothing.
+-- Whether a goal is one of the stored polynomials, and comparing runs that begin inside a slice. Assumes nothing.
 use mathlib.Core.Path.{_≡_, refl, sym, ap, ap₂, subst, _∙_}
 use mathlib.Core.Bool.{Bool, true, false, _||_, or-assoc}
 use mathlib.Core.List.{List, [], _∷_, _++_}
@@ -16,7 +16,7 @@ use Rattle.table.specs.Table.{firsts, polyAt, entryAt, PackedColumns}
 use Rattle.table.proofs.Firsts.{behind, firsts-more, firsts-split}
 use Rattle.table.proofs.Packing.{ends-used}
 
--- a run in the rest of a slice
+-- ---- runs in the rest of a slice
 pub rest-equal : (m a : ℕ) (q : Poly) (s : List ℕ) → equal (decode m (part a (length s - a) s)) q ≡ equal (decode m (drop a s)) q
 rest-equal m a q s = ap (λ (w : List ℕ). equal (decode m w) q) (part-rest a s)
 

@@ -24,6 +24,7 @@ use Rattle.paper.specs.Rules.{Store, stored, find, combination}
 use Rattle.regions.specs.Regions.{statedAt, factorAt, goalAt, StatedIs}
 use Rattle.pairs.specs.declared.Sum.{Sum}
 use Rattle.pairs.specs.Pairs.{productsOf, Summed}
+use Rattle.pairs.proofs.Adding.{kept-stated}
 use Rattle.steps.specs.declared.check.Checked.{Checked}
 use Rattle.steps.specs.Parts.{sums, extends}
 use Rattle.steps.specs.Checks.{Extends, Sums}
@@ -124,26 +125,29 @@ module _ (k : ℕ) (store : Store) (qs : List Pair) (n : ℕ) (seen : List ℕ) 
   })
 
   module _ (few : n ≤ fieldTerms) (x : List ℕ) (u : Sum) (a : Summed k store qs (number seen) s x u) where
+    stated : decode n (drop statedAt x) ≡ decode n (drop statedAt s)
+    stated = kept-stated s x (a .kept) n (omega arith)
+
     pub sums-refused : (u .verdict ≡ 0 → ⊥) → {c : Checked} → c ≡ record { verdict = u .verdict; terms = 0; seen = seen } → Adding x c
     sums-refused l =
         halted x (u .verdict) l (refused-before present (ltb lineProducts (productsOf k (find store) qs)) (u .verdict) (cond (not sum) MISMATCH 0) l (a .verdict))
-        (a .stated n (omega arith)) (a .goal) (a .same)
+        stated (a .kept .goal) (a .kept .same)
 
     module _ (o : u .verdict ≡ 0) (kk : k ≤ greatestRing) (r : List ℕ) {b : Bool} (w : Within 0 statedAt x r) (d : b ≡ equal (decode n (drop statedAt x)) (reduce k (decode (u .terms) x))) where
       counted-sum : (y : Bool) → cond (not y) MISMATCH 0 ≡ sums present (productsOf k (find store) qs) y 0
       counted-sum y = not-refused present (ltb lineProducts (productsOf k (find store) qs)) (cond (not y) MISMATCH 0) (sym o ∙ a .verdict)
 
       same-sum : b ≡ sum
-      same-sum = d ∙ ap₂ equal (a .stated n (omega arith)) (ap (reduce k) (a .run o) ∙ reduce-rounded k kk [] (combination k (find store) qs))
+      same-sum = d ∙ ap₂ equal stated (ap (reduce k) (a .run o) ∙ reduce-rounded k kk [] (combination k (find store) qs))
 
       kept : decode n (drop statedAt r) ≡ decode n (drop statedAt s)
-      kept = decode-above n statedAt 0 statedAt x r w (omega arith) ∙ a .stated n (omega arith)
+      kept = decode-above n statedAt 0 statedAt x r w (omega arith) ∙ stated
 
       kept-goal : drop goalAt r ≡ drop goalAt s
-      kept-goal = drop-more statedAt goalAt x r (omega arith) (w .after) ∙ a .goal
+      kept-goal = drop-more statedAt goalAt x r (omega arith) (w .after) ∙ a .kept .goal
 
       pub sums-differ : b ≡ false → {c : Checked} → c ≡ record { verdict = MISMATCH; terms = 0; seen = seen } → Adding r c
-      sums-differ z = halted r MISMATCH (λ e. omega (arith, e)) (ap (λ (y : Bool). cond (not y) MISMATCH 0) (sym z ∙ same-sum) ∙ counted-sum sum) kept kept-goal (w .same ∙ a .same)
+      sums-differ z = halted r MISMATCH (λ e. omega (arith, e)) (ap (λ (y : Bool). cond (not y) MISMATCH 0) (sym z ∙ same-sum) ∙ counted-sum sum) kept kept-goal (w .same ∙ a .kept .same)
 
       pub sums-all : b ≡ true → Adding r (record { verdict = 0; terms = u .terms; seen = u .seen })
       sums-all z = record {
@@ -153,5 +157,5 @@ module _ (k : ℕ) (store : Store) (qs : List Pair) (n : ℕ) (seen : List ℕ) 
         run = kept;
         seen = λ _. a .seen o;
         goal = kept-goal;
-        same = w .same ∙ a .same;
+        same = w .same ∙ a .kept .same;
       }

@@ -3,7 +3,8 @@
 use native.Mathlib.Omega.{arith}
 use Rattle.words.specs.Words.{number}
 use Rattle.table.proofs.Laws.{found-at, found-nothing}
-use Rattle.pairs.proofs.Adding.{head-index, head-factor, pair-missing, pair-added, place-lies}
+use Rattle.pairs.proofs.Walking.{next-pair, index-good, factor-good}
+use Rattle.pairs.proofs.Adding.{pair-missing, pair-added, place-lies}
 use borrow.Author.Needs.{needs}
 use Rattle.pairs.proofs.add_pair.Statement.{statement}
 use Rattle.pairs.proofs.add_pair.Tie as tie
@@ -15,7 +16,7 @@ small-at-requires : tie.Need-small-at-requires
 small-at-requires c κs =
     let b = c .before .before .before in
     let a = b .args in
-    head-index (a .indices .now) (a .starts .now) (a .counts .now) (a .pool .now) (a .n) (a .line .now) (a .at) (b .pre .0 .0) (b .pre .0 .1) (b .pre .1)
+    index-good (a .line .now) (a .at) (b .pre .0 .0) (next-pair (a .line .now) (a .at) (b .pre .0 .0) (b .pre .0 .1) (b .pre .1))
 
 find-requires : tie.Need-find-requires
 find-requires c κs = search needs
@@ -46,8 +47,8 @@ read-reduced-requires c κs =
     let t = c .before .before .before .before .before .before .small-at in
     let b = c .before .before .before .before .before .before .before .before .before .before in
     let a = b .args in
-    let f = head-factor (a .indices .now) (a .starts .now) (a .counts .now) (a .pool .now) (a .n) (a .line .now) (a .at) (b .pre .0 .0) (b .pre .0 .1) (b .pre .1) (t .result .value) (t .result .end) (t .ensures) in
-    (f .1, omega (arith, b .pre .3), b .pre .4, b .pre .5)
+    let n = next-pair (a .line .now) (a .at) (b .pre .0 .0) (b .pre .0 .1) (b .pre .1) in
+    (factor-good (a .line .now) (a .at) (b .pre .0 .0) n (t .result .value) (t .result .end) (t .ensures), omega (arith, b .pre .3), b .pre .4, b .pre .5)
 
 add-products-requires : tie.Need-add-products-requires
 add-products-requires c κs =

@@ -27,7 +27,7 @@ is-reduced-requires : tie.Need-is-reduced-requires
 is-reduced-requires c κs =
     let b = c .before .before .before .before .before .before .before .before .before .before in
     let q = c .before .before .before .before .before .sum-pairs .ensures (b .pre .0 .0) (b .pre .0 .1) in
-    (b .pre .2, q .most (c .before .if1 .left), omega (arith, q .same), b .pre .4, b .pre .5)
+    (b .pre .2, q .most (c .before .if1 .left), omega (arith, q .kept .same), b .pre .4, b .pre .5)
 
 refusal-requires-2 : tie.Need-refusal-requires-2
 refusal-requires-2 c κs = search needs
