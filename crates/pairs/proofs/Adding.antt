@@ -106,20 +106,20 @@ extended-as {p} {p′} {q} {q′} terms {earlier} {s} {x} {r} {sum} ep eq d k a 
     }
 
 -- ---- the pair at hand
-module _ (indices starts counts pool : List ℕ) (n : ℕ) (line : Bytes) (at : ℕ) where
+module _ (indices starts counts pool : List ℕ) (n : ℕ) where
   abbrev columns : Table
   columns = record { indices = indices; starts = starts; counts = counts; stored = n; used = 0 }
 
   abbrev store : Store
   store = storeOf columns pool
 
-  module _ (qs : List Pair) (w : PairsAt line at qs) (h : at < length line) where
+  module _ {line : Bytes} {at : ℕ} {qs : List Pair} (w : PairsAt line at qs) (h : at < length line) where
     next : Next line at qs
-    next = next-pair line at qs w h
+    next = next-pair w h
 
-    module _ (x m : ℕ) (g : Got decimal line (at + 1) x m) where
+    module _ {x m : ℕ} (g : Got decimal line (at + 1) x m) where
       same : x ≡ next .head .index
-      same = index-same line at qs next x m g
+      same = index-same next g
 
       pub pair-missing : Absent indices n x → (k terms earlier : ℕ) (s seen : List ℕ)
           → {c : Sum} → c ≡ record { verdict = MISSING; terms = 0; seen = seen } → PairAdded k store line at terms earlier s s (record { sum = c; end = at })
@@ -133,20 +133,20 @@ module _ (indices starts counts pool : List ℕ) (n : ℕ) (line : Bytes) (at : 
               let z : _≡_ {A = ℕ} 0 1 = cc in
               omega arith
 
-      pub pair-added : (j k terms earlier : ℕ) (s y r : List ℕ) (f : FieldRun) (sum : Sum) → terms ≤ lineProducts → FirstAt indices n x j
+      pub pair-added : {j k terms earlier : ℕ} {s y r : List ℕ} {f : FieldRun} {sum : Sum} → terms ≤ lineProducts → FirstAt indices n x j
           → ReducedAt line (m + 1) k factorAt s y f → Extended (decode (f .terms) (drop factorAt y)) (polyAt starts counts pool j) terms earlier y r sum
           → PairAdded k store line at terms earlier s r (record { sum = sum; end = f .end })
-      pair-added j k terms earlier s y r f sum l o d a = record {
+      pair-added {j} {k} {terms} {earlier} {s} {y} {r} {f} {sum} l o d a = record {
         value = next .head;
         end = f .end;
-        taken = subst (λ (e : ℕ). Got pair line (at + 1) (next .head) e) (end-same line at qs next x m g (d .value) (f .end) (d .taken)) (next .taken);
+        taken = subst (λ (e : ℕ). Got pair line (at + 1) (next .head) e) (end-same next g (d .taken)) (next .taken);
         missing = λ t. absurd (is-stored t);
         extended = λ _. (refl, whole);
         kept = whole .kept;
       }
         where
           factor : decode (f .terms) (drop factorAt y) ≡ reduced k (next .head .factor)
-          factor = d .run ∙ ap (reduced k) (factor-same line at qs next x m g (d .value) (f .end) (d .taken))
+          factor = d .run ∙ ap (reduced k) (factor-same next g (d .taken))
 
           named : polyAt starts counts pool j ≡ find store (next .head .index)
           named = sym (found-find columns pool x j o) ∙ ap (find store) same

@@ -30,32 +30,32 @@ module _ (indices : List ℕ) (n : ℕ) where
     pub reads : PairsAt s i left
     pub same : (qs : List Pair) → PairsAt s at qs → (starts counts pool : List ℕ) → allStored (store starts counts pool) left ≡ allStored (store starts counts pool) qs
 
-  pub all-start : (s : Bytes) (at : ℕ) (qs : List Pair) → PairsAt s at qs → AllLeft s at at
-  all-start s at qs w = record { left = qs; reads = w; same = λ rs v ss cs pool. ap (allStored (store ss cs pool)) (same-pairs w v) }
+  pub all-start : {s : Bytes} {at : ℕ} {qs : List Pair} → PairsAt s at qs → AllLeft s at at
+  all-start {qs = qs} w = record { left = qs; reads = w; same = λ rs v ss cs pool. ap (allStored (store ss cs pool)) (same-pairs w v) }
 
-  module _ (s : Bytes) (at i : ℕ) (a : AllLeft s at i) where
+  module _ {s : Bytes} {at i : ℕ} (a : AllLeft s at i) where
     pub all-end : length s ≤ i → (qs : List Pair) → PairsAt s at qs → (starts counts pool : List ℕ) → true ≡ allStored (store starts counts pool) qs
     unfolding every
-    all-end h qs w ss cs pool = sym (ap (allStored (store ss cs pool)) (pairs-end s i (a .left) (a .reads) h)) ∙ a .same qs w ss cs pool
+    all-end h qs w ss cs pool = sym (ap (allStored (store ss cs pool)) (pairs-end (a .reads) h)) ∙ a .same qs w ss cs pool
 
-    module _ (h : i < length s) (x m : ℕ) (g : Got decimal s (i + 1) x m) where
+    module _ (h : i < length s) {x m : ℕ} (g : Got decimal s (i + 1) x m) where
       next : Next s i (a .left)
-      next = next-pair s i (a .left) (a .reads) h
+      next = next-pair (a .reads) h
 
       first : (t : Bool) (ss cs pool : List ℕ) → stored (store ss cs pool) x ≡ t → allStored (store ss cs pool) (a .left) ≡ (t && allStored (store ss cs pool) (next .tail))
       unfolding every
       first t ss cs pool e =
           ap (allStored (store ss cs pool)) (next .whole)
-          ∙ ap (λ (b : Bool). b && allStored (store ss cs pool) (next .tail)) (ap (stored (store ss cs pool)) (sym (index-same s i (a .left) next x m g)) ∙ e)
+          ∙ ap (λ (b : Bool). b && allStored (store ss cs pool) (next .tail)) (ap (stored (store ss cs pool)) (sym (index-same next g)) ∙ e)
 
       pub all-missing : Absent indices n x → (qs : List Pair) → PairsAt s at qs → (starts counts pool : List ℕ) → false ≡ allStored (store starts counts pool) qs
       all-missing d qs w ss cs pool =
           sym (first false ss cs pool (absent-stored (columns ss cs) pool x d)) ∙ a .same qs w ss cs pool
 
-      pub all-more : (j e : ℕ) → FirstAt indices n x j → FieldEnd s (m + 1) e → AllLeft s at e
-      all-more j e d f = record {
+      pub all-more : {j e : ℕ} → FirstAt indices n x j → FieldEnd s (m + 1) e → AllLeft s at e
+      all-more {j} d f = record {
         left = next .tail;
-        reads = subst (λ (k : ℕ). PairsAt s k (next .tail)) (end-same s i (a .left) next x m g (f .written) e (f .taken)) (next .rest);
+        reads = subst (λ (k : ℕ). PairsAt s k (next .tail)) (end-same next g (f .taken)) (next .rest);
         same = λ qs w ss cs pool.
             sym (first true ss cs pool (found-stored (columns ss cs) pool x j d)) ∙ a .same qs w ss cs pool;
       }

@@ -65,9 +65,9 @@ module _ (k : ℕ) (store : Store) where
     pub seen : bitOr (allVars (factors left)) all ≡ bitOr (allVars (factors whole)) earlier
     pub kept : Kept s x
 
-  pub done-start : (line : Bytes) (at earlier : ℕ) (s : List ℕ) (qs : List Pair) → PairsAt line at qs → Done line at at earlier 0 earlier s s
+  pub done-start : {line : Bytes} {at : ℕ} (earlier : ℕ) (s : List ℕ) {qs : List Pair} → PairsAt line at qs → Done line at at earlier 0 earlier s s
   unfolding decode
-  done-start line at earlier s qs w = record {
+  done-start earlier s {qs} w = record {
     whole = qs;
     left = qs;
     first = w;
@@ -80,12 +80,12 @@ module _ (k : ℕ) (store : Store) where
     kept = kept-refl;
   }
 
-  module _ (line : Bytes) (at i earlier terms all : ℕ) (s x : List ℕ) (d : Done line at i earlier terms all s x) where
+  module _ {line : Bytes} {at i earlier terms all : ℕ} {s x : List ℕ} (d : Done line at i earlier terms all s x) where
     done-end : (seen : List ℕ) → number seen ≡ all → length line ≤ i → (qs : List Pair) → PairsAt line at qs
         → Summed k store qs earlier s x (record { verdict = 0; terms = terms; seen = seen })
     unfolding productsOf combination total rounded allVars every
     done-end seen e h qs w =
-        let o : d .left ≡ [] = pairs-end line i (d .left) (d .reads) h in
+        let o : d .left ≡ [] = pairs-end (d .reads) h in
         let q : d .whole ≡ qs = same-pairs (d .first) w in
         let c : terms + productsOf k named [] ≡ productsOf k named (d .whole) = ap (λ (l : List Pair). terms + productsOf k named l) (sym o) ∙ d .count in
         let a : allStored store (d .whole) ≡ true = d .stand ∙ ap (allStored store) o in
@@ -107,9 +107,9 @@ module _ (k : ℕ) (store : Store) where
     done-last sum o t e h qs w =
         subst (Summed k store qs earlier s x) (λ j. record { verdict = sym o j; terms = sym t j; seen = sum .seen }) (done-end (sum .seen) e h qs w)
 
-    module _ (h : i < length line) (r : List ℕ) (a : Added) (p : PairAdded k store line i terms all x r a) where
+    module _ (h : i < length line) {r : List ℕ} {a : Added} (p : PairAdded k store line i terms all x r a) where
       next : Next line i (d .left)
-      next = next-pair line i (d .left) (d .reads) h
+      next = next-pair (d .reads) h
 
       parts : d .left ≡ p .value ∷ next .tail
       parts = next .whole ∙ ap (λ (q : Pair). q ∷ next .tail) (same-value (next .taken .reads) (p .taken .reads))

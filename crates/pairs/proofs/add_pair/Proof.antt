@@ -15,8 +15,7 @@ add-small-at c = search needs
 small-at-requires : tie.Need-small-at-requires
 small-at-requires c κs =
     let b = c .before .before .before in
-    let a = b .args in
-    index-good (a .line .now) (a .at) (b .pre .0 .0) (next-pair (a .line .now) (a .at) (b .pre .0 .0) (b .pre .0 .1) (b .pre .1))
+    index-good (next-pair (b .pre .0 .1) (b .pre .1))
 
 find-requires : tie.Need-find-requires
 find-requires c κs = search needs
@@ -36,7 +35,7 @@ returns c =
     let t = f .before .small-at in
     let b = f .before .before .before .before .before in
     let a = b .args in
-    pair-missing (a .indices .now) (a .starts .now) (a .counts .now) (a .pool .now) (a .n) (a .line .now) (a .at) (b .pre .0 .0) (b .pre .0 .1) (b .pre .1) (t .result .value) (t .result .end) (t .ensures)
+    pair-missing (a .indices .now) (a .starts .now) (a .counts .now) (a .pool .now) (a .n) (b .pre .0 .1) (b .pre .1) (t .ensures)
     (found-nothing (c .before .before .enum-told .given .1) (f .find .ensures)) (a .k) (a .sum .terms) (number (a .sum .seen)) (a .scratch .now) (a .sum .seen) (c .refusal .ensures)
 
 add-read-reduced : tie.Need-add-read-reduced
@@ -47,8 +46,7 @@ read-reduced-requires c κs =
     let t = c .before .before .before .before .before .before .small-at in
     let b = c .before .before .before .before .before .before .before .before .before .before in
     let a = b .args in
-    let n = next-pair (a .line .now) (a .at) (b .pre .0 .0) (b .pre .0 .1) (b .pre .1) in
-    (factor-good (a .line .now) (a .at) (b .pre .0 .0) n (t .result .value) (t .result .end) (t .ensures), omega (arith, b .pre .3), b .pre .4, b .pre .5)
+    (factor-good (next-pair (b .pre .0 .1) (b .pre .1)) (t .ensures), omega (arith, b .pre .3), b .pre .4, b .pre .5)
 
 add-products-requires : tie.Need-add-products-requires
 add-products-requires c κs =
@@ -70,9 +68,8 @@ returns-2 c =
     let t = o .before .small-at in
     let b = o .before .before .before .before .before in
     let a = b .args in
-    pair-added (a .indices .now) (a .starts .now) (a .counts .now) (a .pool .now) (a .n) (a .line .now) (a .at) (b .pre .0 .0) (b .pre .0 .1) (b .pre .1) (t .result .value) (t .result .end) (t .ensures)
-    _ (a .k) (a .sum .terms) (number (a .sum .seen)) (a .scratch .now) (f .last .1 .1 .0) (m .last .1 .1 .1 .1 .0) (f .result) (m .result) (b .pre .6)
-    (found-at (c .before .before .before .before .before .before .before .before .before .before .found .given .1) (o .find .ensures)) (f .ensures) (m .ensures)
+    pair-added (a .indices .now) (a .starts .now) (a .counts .now) (a .pool .now) (a .n) (b .pre .0 .1) (b .pre .1) (t .ensures)
+    (b .pre .6) (found-at (c .before .before .before .before .before .before .before .before .before .before .found .given .1) (o .find .ensures)) (f .ensures) (m .ensures)
 
 pub add-pair-spec : {M : Type 1} → statement M
 add-pair-spec =
