@@ -12,7 +12,7 @@ extern "C" {
 /* Checks the text of `bytes` bytes at `text`, and gives verdict + 32 * line.
    In the language of the proofs the argument is one byte slice, which crosses as a pointer and a length.
    `text` points to that many readable bytes and is not NULL, not even where `bytes` is 0.
-   Nothing is written there and nothing is kept. The room is the call's own, some 160 KB of stack, and any number
+   Nothing is written there and nothing is kept. The room is the call's own, some 150 KB of stack, and any number
    of threads may call at once. A text above 65,536 bytes is LPAC_LONGTEXT and is not read. */
 uint64_t lpac_verdict(const uint8_t *text, size_t bytes);
 

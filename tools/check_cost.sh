@@ -11,9 +11,9 @@ trap 'rm -rf "$folder"' EXIT
 : >"$folder/empty"
 
 instructions() { # TEXT COMMAND...
-  local text=$1
-  shift
-  valgrind --tool=callgrind --callgrind-out-file="$folder/out" "$@" <"$folder/$text" 2>&1 >/dev/null | sed -n 's/.*Collected : //p'
+    local text=$1
+    shift
+    valgrind --tool=callgrind --callgrind-out-file="$folder/out" "$@" <"$folder/$text" 2>&1 >/dev/null | sed -n 's/.*Collected : //p'
 }
 
 proved=$(instructions empty target/bin/check_cost)
@@ -21,18 +21,18 @@ independent=$(instructions empty "$bench" independent)
 floor=$(instructions empty "$bench" floor)
 printf '| text | bytes | lines | proved | independent | floor | proved to independent |\n|---|---|---|---|---|---|---|\n'
 for name in $("$bench" names); do
-  "$bench" text "$name" >"$folder/$name"
-  bytes=$(wc -c <"$folder/$name")
-  p=$((($(instructions "$name" target/bin/check_cost) - proved) / bytes))
-  i=$((($(instructions "$name" "$bench" independent) - independent) / bytes))
-  f=$((($(instructions "$name" "$bench" floor) - floor) / bytes))
-  printf '| %s | %d | %d | %d | %d | %d | %d.%02d |\n' "$name" "$bytes" "$(wc -l <"$folder/$name")" $p $i $f $((p / i)) $((p * 100 / i % 100))
+    "$bench" text "$name" >"$folder/$name"
+    bytes=$(wc -c <"$folder/$name")
+    p=$((($(instructions "$name" target/bin/check_cost) - proved) / bytes))
+    i=$((($(instructions "$name" "$bench" independent) - independent) / bytes))
+    f=$((($(instructions "$name" "$bench" floor) - floor) / bytes))
+    printf '| %s | %d | %d | %d | %d | %d | %d.%02d |\n' "$name" "$bytes" "$(wc -l <"$folder/$name")" $p $i $f $((p / i)) $((p * 100 / i % 100))
 done
 
 printf '\n| products a line | instructions a product |\n|---|---|\n'
 for n in 64 256 1024; do
-  all=$(target/bin/lpac_check <"$folder/products-$n" | cut -f 4)
-  printf '| %d | %d |\n' "$n" $((($(instructions "products-$n" target/bin/check_cost) - proved) / all))
+    all=$(target/bin/lpac_check <"$folder/products-$n" | cut -f 4)
+    printf '| %d | %d |\n' "$n" $((($(instructions "products-$n" target/bin/check_cost) - proved) / all))
 done
 
 printf '\n'

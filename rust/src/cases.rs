@@ -1,6 +1,6 @@
 //! Texts with known answers: the paper's samples, every verdict, and every limit on both sides.
 
-use crate::independent::{check, Answer};
+use crate::independent::{check, Answer, LONGTEXT, POOL, SCRATCH, SHORT};
 
 /// A text in pieces, each repeated, with the words of pool and scratch lent to it.
 pub struct Case {
@@ -8,9 +8,6 @@ pub struct Case {
     pub scratch: usize,
     pub pieces: Vec<(usize, Vec<u8>)>,
 }
-
-pub const POOL: usize = 8000;
-pub const SCRATCH: usize = 6560;
 
 impl Case {
     pub fn text(&self) -> Vec<u8> {
@@ -34,7 +31,7 @@ fn pieces(list: &[(usize, &str)]) -> Case {
     Case { pieces: list.iter().map(|(n, s)| (*n, s.as_bytes().to_vec())).collect(), ..case("") }
 }
 
-const SAMPLE: &str = "ring\t8\nin\t1\t-1.2 1.0.1\ngoal\t1.2 -1.0.2\nlin\t2\t1.2 -1.0.2\t1\t1.0 -1\n";
+const SAMPLE: &str = include_str!("../../examples/sample.lpac");
 
 fn terms(n: usize) -> String {
     (0..n).map(|i| format!("1.{i}")).collect::<Vec<_>>().join(" ")
@@ -54,7 +51,7 @@ fn samples() -> Vec<Case> {
     vec![
         case(SAMPLE),
         case("ring\t8\nin\t1\t-1.2 1.0.1\ngoal\t1.2 -1.0.2\n"),
-        case("ring\t8\nin\t1\t-1.2 1.0.1\ngoal\t1.2 -1.0.2\nlin\t2\t1.2\t1\t1.0 -1\n"),
+        case(include_str!("../../examples/refused.lpac")),
         case(""),
         ext(1, "1.0 1.1"),
         ext(2, "1.0 1.1"),
@@ -76,9 +73,13 @@ fn samples() -> Vec<Case> {
     ]
 }
 
-/// Every verdict, at two places or more.
-fn verdicts() -> Vec<Case> {
-    let after = |lines: &str| case(&format!("ring\t8\nin\t1\t1.0 -1.1\nin\t2\t1.1\ngoal\t1.0\n{lines}"));
+/// Lines behind a goal that they may reach.
+fn after(lines: &str) -> Case {
+    case(&format!("ring\t8\nin\t1\t1.0 -1.1\nin\t2\t1.1\ngoal\t1.0\n{lines}"))
+}
+
+/// Rooms, texts and lines that are too short or too long: SHORT, LONGTEXT, LONGLINE.
+fn lengths() -> Vec<Case> {
     vec![
         in_room(479, SCRATCH, SAMPLE),
         in_room(480, SCRATCH - 1, SAMPLE),
@@ -93,6 +94,12 @@ fn verdicts() -> Vec<Case> {
         pieces(&[(1, SAMPLE), (8193, "\t"), (1, "\n")]),
         pieces(&[(1, "ring\t8\n"), (8193, "1")]),
         pieces(&[(1, "ring\t8\n"), (8192, "1")]),
+    ]
+}
+
+/// Shapes of lines: FORM.
+fn shapes() -> Vec<Case> {
+    vec![
         case("\n"),
         case("ring\t8"),
         case("ring\t8\n\n"),
@@ -110,6 +117,12 @@ fn verdicts() -> Vec<Case> {
         after("ext\t3\t4\t1..2\n"),
         after("foo\t3\n"),
         after("del\t01\n"),
+    ]
+}
+
+/// Numbers and terms at their limits and beyond: NUMBER, TERMS.
+fn limits() -> Vec<Case> {
+    vec![
         after("del\t0\n"),
         after("del\t4294967295\n"),
         after("del\t4294967296\n"),
@@ -127,6 +140,12 @@ fn verdicts() -> Vec<Case> {
         after(&format!("lin\t3\t96.0.1\t1\t{}\n", repeated(96))),
         case(&format!("ring\t8\ngoal\t{}\n", repeated(97))),
         case(&format!("in\t1\t{}\n", repeated(97))),
+    ]
+}
+
+/// Steps that can't stand where they are, or name what they can't: ORDER, TAKEN, MISSING, SEEN.
+fn places() -> Vec<Case> {
+    vec![
         case("in\t1\t1\n"),
         case("ring\t8\nring\t8\n"),
         after("ring\t8\n"),
@@ -148,6 +167,12 @@ fn verdicts() -> Vec<Case> {
         after("lin\t3\t0\t1\t1.9 -1.9\next\t4\t9\t1\n"),
         after("lin\t3\t0\t1\t256.9\next\t4\t9\t1\n"),
         after("lin\t3\t1.0.9 -1.1.9\t1\t1.9\next\t4\t9\t1\n"),
+    ]
+}
+
+/// Steps whose products are too many or wrong: PRODUCTS, MISMATCH, NOTBIT.
+fn products() -> Vec<Case> {
+    vec![
         after(&format!("ext\t3\t200\t{}\n", terms(33))),
         after(&format!("lin\t3\t0{}\n", format!("\t1\t{}", terms(64)).repeat(8))),
         after(&format!("lin\t3\t0{}\t1\t1\n", format!("\t1\t{}", terms(64)).repeat(8))),
@@ -157,6 +182,12 @@ fn verdicts() -> Vec<Case> {
         after("ext\t3\t4\t2\n"),
         after("ext\t3\t4\t1.0 1.1\n"),
         after("ext\t3\t4\t1.0.1\nlin\t5\t1.0\t2\t1\t1\t1\n"),
+    ]
+}
+
+/// Texts that end with and without a goal: NOGOAL, NOTREACHED, and goals that are reached.
+fn ends() -> Vec<Case> {
+    vec![
         case("ring\t8\nin\t1\t1\n"),
         case("ring\t8\n"),
         after(""),
@@ -168,7 +199,7 @@ fn verdicts() -> Vec<Case> {
     ]
 }
 
-/// The room of the pool: exact fits, and room that del frees.
+/// The room of the pool: FULL, exact fits, and room that del frees.
 fn rooms() -> Vec<Case> {
     let full = |pool: usize, lines: &str| in_room(pool, SCRATCH, &format!("ring\t8\n{lines}"));
     let wide = |i: usize| format!("in\t{i}\t{}\n", terms(96));
@@ -188,7 +219,7 @@ fn rooms() -> Vec<Case> {
 }
 
 pub fn all() -> Vec<Case> {
-    samples().into_iter().chain(verdicts()).chain(rooms()).collect()
+    [samples, lengths, shapes, limits, places, products, ends, rooms].iter().flat_map(|cases| cases()).collect()
 }
 
 /// The cases as the program `check_cases` reads them.
@@ -209,9 +240,8 @@ pub fn output() -> Vec<u8> {
     let mut out = Vec::new();
     for case in all() {
         let a = case.answer();
-        let rooms = if a.verdict == 1 || a.verdict == 2 { "untouched" } else { "zero" };
-        let numbers = [a.verdict, a.line, a.index, a.products, a.polynomials, a.terms].map(|n| n.to_string()).join("\t");
-        out.extend(format!("{numbers}\t{rooms}\t{rooms}\n").bytes());
+        let rooms = if [SHORT, LONGTEXT].contains(&a.verdict) { "untouched" } else { "zero" };
+        out.extend(format!("{a}\t{rooms}\t{rooms}\n").bytes());
     }
     out
 }
@@ -219,6 +249,7 @@ pub fn output() -> Vec<u8> {
 #[cfg(test)]
 mod tests {
     use super::*;
+    use std::collections::HashSet;
 
     #[test]
     fn the_program_is_run_on_these_cases() {
@@ -228,12 +259,13 @@ mod tests {
     }
 
     #[test]
-    fn every_verdict_is_given_at_two_places() {
-        for verdict in 0..=16 {
-            let mut places: Vec<(Vec<u8>, u64)> = Vec::new();
-            places.extend(all().iter().filter(|c| c.answer().verdict == verdict).map(|c| (c.text(), c.answer().line)));
-            places.dedup();
-            assert!(places.len() >= 2, "{verdict}");
+    fn every_verdict_is_given_to_two_texts() {
+        let mut texts = vec![HashSet::new(); 17];
+        for case in all() {
+            texts[case.answer().verdict as usize].insert(case.text());
+        }
+        for (verdict, texts) in texts.iter().enumerate() {
+            assert!(texts.len() >= 2, "{verdict}");
         }
     }
 }

@@ -4,6 +4,11 @@ mod statement;
 
 use statement::{statement, Decimal, Statement, Written};
 use std::collections::{BTreeMap, HashMap, HashSet};
+use std::fmt;
+
+/// The room that the host call and the check program have, in words.
+pub const POOL: usize = 8_000;
+pub const SCRATCH: usize = 6_560;
 
 pub const SHORT: u64 = 1;
 pub const LONGTEXT: u64 = 2;
@@ -33,10 +38,18 @@ pub struct Answer {
     pub terms: u64,
 }
 
+impl fmt::Display for Answer {
+    /// As the check program prints it.
+    fn fmt(&self, f: &mut fmt::Formatter) -> fmt::Result {
+        let Answer { verdict, line, index, products, polynomials, terms } = self;
+        write!(f, "{verdict}\t{line}\t{index}\t{products}\t{polynomials}\t{terms}")
+    }
+}
+
 /// A set of variables, the highest first, so that comparing two lists of words compares two numbers.
 type Set = [u64; 4];
 
-/// Reduced polynomials: no zero coefficient.
+/// A reduced polynomial: no coefficient is zero modulo 2^k.
 type Poly = BTreeMap<Set, u64>;
 
 // ---- polynomials modulo 2^k
@@ -49,6 +62,7 @@ fn mask(k: u32) -> u64 {
     u64::MAX >> (64 - k)
 }
 
+/// Adds a term to p.
 fn add(p: &mut Poly, set: Set, c: u64, k: u32) {
     let sum = p.remove(&set).unwrap_or(0).wrapping_add(c) & mask(k);
     if sum != 0 {
@@ -62,6 +76,7 @@ fn single(v: u64) -> Set {
     set
 }
 
+/// Whether v is in the set.
 fn holds(set: &Set, v: u64) -> bool {
     set[3 - (v / 64) as usize] >> (v % 64) & 1 == 1
 }
@@ -86,6 +101,7 @@ fn add_product(sum: &mut Poly, p: &Poly, q: &Poly, k: u32) {
 
 // ---- the steps
 
+/// What has stood so far: nothing, the ring line, the goal line.
 #[derive(PartialEq)]
 enum Phase {
     Opening,
@@ -109,12 +125,14 @@ impl State {
         self.store.values().map(|p| p.len()).sum()
     }
 
+    /// Makes the variables of p seen.
     fn see(&mut self, p: &Poly) {
         for set in p.keys() {
             self.seen.extend((0..256).filter(|&v| holds(set, v)));
         }
     }
 
+    /// Stores p, which may be the goal.
     fn place(&mut self, index: u64, p: Poly) -> Result<(), u64> {
         if self.store.len() >= 512 || self.terms() + p.len() > self.capacity {
             return Err(FULL);
@@ -127,6 +145,7 @@ impl State {
         Ok(())
     }
 
+    /// Refuses a line of another phase.
     fn stands(&self, phase: Phase) -> Result<(), u64> {
         if self.phase == phase {
             Ok(())
@@ -135,6 +154,7 @@ impl State {
         }
     }
 
+    /// Refuses an index that is stored already.
     fn free(&self, index: u64) -> Result<(), u64> {
         if self.store.contains_key(&index) {
             Err(TAKEN)
@@ -163,9 +183,10 @@ impl State {
             }
             Statement::Goal(p) => {
                 self.stands(Phase::Inputs)?;
-                self.goal = reduced(p, self.k);
-                self.see(&self.goal.clone());
-                self.reached = self.store.values().any(|q| *q == self.goal);
+                let goal = reduced(p, self.k);
+                self.see(&goal);
+                self.reached = self.store.values().any(|q| *q == goal);
+                self.goal = goal;
                 self.phase = Phase::Steps;
             }
             Statement::Lin(i, stated, pairs) => self.lin(i.unwrap(), stated, pairs)?,
@@ -274,4 +295,12 @@ pub fn check(text: &[u8], pool: usize, scratch: usize) -> Answer {
         (true, false) => state.report(NOTREACHED, count, 0),
         (true, true) => state.report(0, 0, 0),
     }
+}
+
+/// The answer of the host call and the check program, which take 65,536 bytes at most.
+pub fn check_hosted(text: &[u8]) -> Answer {
+    if text.len() > 65_536 {
+        return Answer { verdict: LONGTEXT, ..Answer::default() };
+    }
+    check(text, POOL, SCRATCH)
 }

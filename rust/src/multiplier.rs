@@ -101,7 +101,7 @@ impl Cell {
         [vec![(-1, vec![self.carry])], self.of_size(2, 1), self.of_size(3, -2)].concat()
     }
 
-    /// The inputs less sum and twice the carry: what the two add up to.
+    /// The inputs less the sum and twice the carry: what `sum_poly` and twice `carry_poly` add up to.
     fn balance(&self) -> Vec<Term> {
         [self.of_size(1, 1), vec![(-1, vec![self.sum]), (-2, vec![self.carry])]].concat()
     }
@@ -179,7 +179,7 @@ pub fn text(n: usize, k: u32, style: Style) -> Vec<u8> {
     lines.text.into_bytes()
 }
 
-/// The balance of each cell, from its two gates.
+/// Derives the balance of a cell from its two gates, which are deleted, and gives its index.
 fn balance(cell: &Cell, gates: &(usize, usize), lines: &mut Lines) -> usize {
     let i = lines.lin(&cell.balance(), &[(gates.0, 1), (gates.1, 2)]);
     lines.del(gates.0);
@@ -187,7 +187,7 @@ fn balance(cell: &Cell, gates: &(usize, usize), lines: &mut Lines) -> usize {
     i
 }
 
-/// A polynomial for each row of cells, with its factor in the goal.
+/// Derives the sum of each row's weighted balances, and gives its index with its factor in the last lin.
 fn rows(circuit: &Circuit, gates: &[(usize, usize)], lines: &mut Lines) -> Vec<(usize, i64)> {
     let mut rows = Vec::new();
     for (cells, gates) in circuit.cells.chunks(circuit.n).zip(gates.chunks(circuit.n)) {
@@ -205,7 +205,7 @@ fn rows(circuit: &Circuit, gates: &[(usize, usize)], lines: &mut Lines) -> Vec<(
     rows
 }
 
-/// The weighted balances of all cells, added one by one.
+/// Adds the weighted balances of all cells one by one, and gives the index of their sum.
 fn total(circuit: &Circuit, gates: &[(usize, usize)], lines: &mut Lines) -> usize {
     let mut stated = Vec::new();
     let mut sum = None;
@@ -226,25 +226,21 @@ fn total(circuit: &Circuit, gates: &[(usize, usize)], lines: &mut Lines) -> usiz
 #[cfg(test)]
 mod tests {
     use super::*;
-    use crate::independent::{check, Answer, MISMATCH};
-
-    fn answer(text: &[u8]) -> Answer {
-        check(text, 8000, 6560)
-    }
+    use crate::independent::{check_hosted, MISMATCH};
 
     #[test]
     fn every_size_ring_and_style_is_accepted() {
         for n in 2..=8 {
             for k in 1..=64 {
                 for style in STYLES {
-                    assert_eq!(answer(&text(n, k, style)).verdict, 0, "{n} {k} {style:?}");
+                    assert_eq!(check_hosted(&text(n, k, style)).verdict, 0, "{n} {k} {style:?}");
                 }
             }
         }
     }
 
     #[test]
-    fn the_mission_has_192_signals() {
+    fn the_8_by_8_multiplier_has_192_signals() {
         let circuit = Circuit::new(8);
         assert_eq!(circuit.cells.len(), 56);
         assert_eq!(circuit.cells.last().unwrap().carry, 191);
@@ -259,7 +255,7 @@ mod tests {
             let mut lines: Vec<String> = good.lines().map(String::from).collect();
             lines[line] += " 1";
             let user = lines.iter().position(|l| l.starts_with("lin") && l.split('\t').skip(3).step_by(2).any(|i| i == "17")).unwrap();
-            let a = answer((lines.join("\n") + "\n").as_bytes());
+            let a = check_hosted((lines.join("\n") + "\n").as_bytes());
             assert_eq!((a.verdict, a.line), (MISMATCH, user as u64 + 1), "{style:?}");
         }
     }

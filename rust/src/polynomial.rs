@@ -17,6 +17,7 @@ impl Polynomial {
         Polynomial::default().plus_term(64, 1, &[v])
     }
 
+    /// Itself plus c times the product of some variables.
     pub fn plus_term(mut self, k: u32, c: u64, variables: &[u8]) -> Polynomial {
         let mut set = variables.to_vec();
         set.sort_unstable();
@@ -45,6 +46,7 @@ impl Polynomial {
         all
     }
 
+    /// How many terms it has.
     pub fn terms(&self) -> usize {
         self.0.len()
     }
@@ -53,11 +55,13 @@ impl Polynomial {
         self.0.keys().flatten().copied()
     }
 
+    /// Whether v stands in it.
     pub fn holds(&self, v: u8) -> bool {
         self.variables().any(|w| w == v)
     }
 
     /// A field that says this polynomial: any order, terms split in two, variables repeated, signs and multiples of 2^k at will.
+    /// No more are split once 40 terms stand there, so that 64 terms stay within the 96 of a field.
     pub fn written(&self, k: u32, random: &mut Random) -> String {
         let mut terms = Vec::new();
         for (set, &c) in &self.0 {

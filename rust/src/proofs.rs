@@ -8,14 +8,18 @@ use std::collections::HashSet;
 pub const VARIABLES: [u8; 12] = [0, 1, 2, 3, 62, 63, 64, 127, 128, 191, 192, 255];
 
 /// A proof in the making.
+#[derive(Default)]
 struct Proof {
     k: u32,
     inputs: Vec<String>,
     steps: Vec<String>,
     stored: Vec<(u64, Polynomial)>,
+    /// All that was ever stored.
     introduced: Vec<Polynomial>,
+    /// The variables of ext lines.
     defined: Vec<u8>,
     seen: HashSet<u8>,
+    /// The next new index.
     next: u64,
 }
 
@@ -23,8 +27,7 @@ struct Proof {
 pub fn lines(random: &mut Random) -> Vec<String> {
     let k = *random.pick(&[1, 1, 2, 3, 8, 16, 31, 32, 33, 63, 64]);
     let next = *random.pick(&[1, 1, 1, 9, 4_294_967_200]);
-    let (inputs, steps, stored, introduced, defined) = (vec![], vec![], vec![], vec![], vec![]);
-    let mut proof = Proof { k, inputs, steps, stored, introduced, defined, seen: HashSet::new(), next };
+    let mut proof = Proof { k, next, ..Proof::default() };
     for _ in 0..random.below(5) {
         proof.input(random);
     }

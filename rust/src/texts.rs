@@ -57,16 +57,16 @@ fn near_miss(mut lines: Vec<String>, random: &mut Random) -> Vec<u8> {
     joined(&lines)
 }
 
-/// A number of the line replaced.
-fn with_other_number(line: &str, random: &mut Random) -> String {
-    let bytes = line.as_bytes();
+/// A line or a text with one of its numbers replaced.
+fn with_other_number(text: &str, random: &mut Random) -> String {
+    let bytes = text.as_bytes();
     let starts: Vec<usize> = (1..bytes.len()).filter(|&i| bytes[i].is_ascii_digit() && !bytes[i - 1].is_ascii_digit()).collect();
     if starts.is_empty() {
-        return line.to_string();
+        return text.to_string();
     }
     let start = *random.pick(&starts);
     let end = (start..bytes.len()).find(|&i| !bytes[i].is_ascii_digit()).unwrap_or(bytes.len());
-    format!("{}{}{}", &line[..start], random.pick(&NUMBERS), &line[end..])
+    format!("{}{}{}", &text[..start], random.pick(&NUMBERS), &text[end..])
 }
 
 /// A field with terms added or another polynomial in its place.
@@ -224,6 +224,7 @@ fn long_text(random: &mut Random) -> Vec<u8> {
     text.into_bytes()
 }
 
+/// A number at an end of its range, or just outside, in each of its places.
 fn number_at_its_end(random: &mut Random) -> Vec<u8> {
     let n = random.pick(&NUMBERS);
     match random.below(6) {

@@ -1,10 +1,10 @@
 //! Texts to measure with: the 8 by 8 multiplier in three styles, and the dearest texts of each kind that we know.
 
+use crate::host::TEXT_BYTES;
 use crate::multiplier::{self, Style};
 use crate::random::Random;
 
-/// The longest text that the host call takes, and the longest that the checker takes.
-const HOST_BYTES: usize = 65_536;
+/// The longest text that the checker takes.
 const MOST_BYTES: usize = 1_048_576;
 
 /// A text and its name.
@@ -37,7 +37,7 @@ fn terms(random: &mut Random, n: usize) -> Vec<String> {
 fn products(each: usize) -> Vec<u8> {
     let mut random = Random::new(1);
     let head = format!("ring\t64\nin\t1\t{}\ngoal\t1\n", terms(&mut random, 32).join(" "));
-    grown(head, HOST_BYTES, |turn| {
+    grown(head, TEXT_BYTES, |turn| {
         let factor = terms(&mut random, each / 64);
         let negative = joined(factor.iter().map(|t| format!("-{t}")), " ");
         (turn < 510).then(|| format!("lin\t{}\t0\t1\t{}\t1\t{negative}\n", turn + 2, factor.join(" ")))
@@ -47,7 +47,7 @@ fn products(each: usize) -> Vec<u8> {
 /// 512 stored polynomials, and a del of the first on every second line.
 fn deletions() -> Vec<u8> {
     let inputs = joined((1..512).map(|i| format!("in\t{i}\t1.{}\n", i % 256)), "");
-    grown(format!("ring\t8\n{inputs}goal\t7\n"), HOST_BYTES, |turn| {
+    grown(format!("ring\t8\n{inputs}goal\t7\n"), TEXT_BYTES, |turn| {
         let (new, first) = (512 + turn, 1 + turn);
         Some(format!("lin\t{new}\t0\t{}\t0\ndel\t{first}\n", new - 1))
     })
@@ -56,7 +56,7 @@ fn deletions() -> Vec<u8> {
 /// Lines of nearly 8,192 bytes, with fields of many variables.
 fn fields() -> Vec<u8> {
     let mut random = Random::new(2);
-    grown("ring\t64\n".to_string(), HOST_BYTES - 7, |turn| {
+    grown("ring\t64\n".to_string(), TEXT_BYTES, |turn| {
         let mut line = format!("in\t{}\t", turn + 1);
         for n in 0..96 {
             let variables = joined((0..16).map(|_| random.below(256)), ".");
@@ -73,14 +73,14 @@ fn fields() -> Vec<u8> {
 /// Fields of 96 terms that are the longest decimals.
 fn decimals() -> Vec<u8> {
     let field = joined((0..96).map(|_| u64::MAX), " ");
-    grown("ring\t64\n".to_string(), HOST_BYTES - 7, |turn| Some(format!("in\t{}\t{field}\n", 4_294_967_295 - turn)))
+    grown("ring\t64\n".to_string(), TEXT_BYTES, |turn| Some(format!("in\t{}\t{field}\n", 4_294_967_295 - turn)))
 }
 
 /// Lin lines of 400 pairs with stored polynomials in any order.
 fn pairs() -> Vec<u8> {
     let mut random = Random::new(3);
     let inputs = joined((1..=500).map(|i| format!("in\t{i}\t1.{}\n", i % 256)), "");
-    grown(format!("ring\t8\n{inputs}goal\t7\n"), HOST_BYTES, |turn| {
+    grown(format!("ring\t8\n{inputs}goal\t7\n"), TEXT_BYTES, |turn| {
         let pairs = joined((0..400).map(|_| format!("\t{}\t0", random.between(1, 500))), "");
         (turn < 12).then(|| format!("lin\t{}\t0{pairs}\n", 1_000 + turn))
     })

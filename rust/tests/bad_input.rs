@@ -2,19 +2,14 @@
 
 mod common;
 
-use common::{at_root, run, run_check_program};
+use common::{run_check_program, run_lpac};
 use std::path::{Path, PathBuf};
-use std::process::{Command, Output};
 
-const SAMPLE: &[u8] = b"ring\t8\nin\t1\t-1.2 1.0.1\ngoal\t1.2 -1.0.2\nlin\t2\t1.2 -1.0.2\t1\t1.0 -1\n";
-
-fn lpac(arguments: &[&str], input: &[u8]) -> Output {
-    run(Command::new(env!("CARGO_BIN_EXE_lpac")).current_dir(at_root("")).args(arguments), input)
-}
+const SAMPLE: &[u8] = include_bytes!("../../examples/sample.lpac");
 
 /// The command and the check program on standard input: the words of one, the numbers of the other.
 fn both(input: &[u8], status: i32, words: &str, numbers: &str) {
-    let said = lpac(&["check", "-"], input);
+    let said = run_lpac(&["check", "-"], input);
     assert_eq!(String::from_utf8(said.stdout).unwrap(), format!("-: {words}\n"));
     assert_eq!((said.status.code(), said.stderr), (Some(status), vec![]));
     let said = run_check_program(input);
@@ -57,18 +52,18 @@ fn a_line_without_an_end_is_shown_up_to_a_readable_width() {
 fn a_missing_file_is_named_and_has_status_2_whatever_else_is_checked() {
     let (good, bad) = ("examples/sample.lpac", "examples/refused.lpac");
     for names in [&["check", "no/such"][..], &["check", "no/such", good], &["check", bad, "no/such", good]] {
-        let said = lpac(names, b"");
+        let said = run_lpac(names, b"");
         assert_eq!(said.status.code(), Some(2));
         assert!(String::from_utf8(said.stderr).unwrap().starts_with("lpac: no/such: cannot be read: No such file"));
         assert_eq!(String::from_utf8(said.stdout).unwrap().lines().count(), names.len() - 2);
     }
-    assert_eq!(lpac(&["check", "examples"], b"").status.code(), Some(2));
+    assert_eq!(run_lpac(&["check", "examples"], b"").status.code(), Some(2));
 }
 
 #[test]
 fn bad_usage_is_told_and_has_status_2() {
     for arguments in [&[][..], &["check"], &["verify", "examples/sample.lpac"], &["check", "-", "-"]] {
-        let said = lpac(arguments, b"");
+        let said = run_lpac(arguments, b"");
         assert_eq!((said.status.code(), said.stdout), (Some(2), vec![]));
         assert!(said.stderr.starts_with(b"usage: lpac check FILE..."));
     }
@@ -76,7 +71,7 @@ fn bad_usage_is_told_and_has_status_2() {
 
 #[test]
 fn a_name_cannot_make_a_line_of_its_own() {
-    let said = lpac(&["check", "no\nsuch: accepted"], b"");
+    let said = run_lpac(&["check", "no\nsuch: accepted"], b"");
     assert!(String::from_utf8(said.stderr).unwrap().starts_with("lpac: no\\nsuch: accepted: cannot be read"));
 }
 
@@ -85,7 +80,7 @@ fn a_file_at_the_limit_is_read_to_its_end() {
     let filler = |bytes: usize| [SAMPLE, format!("{}\n", "x".repeat(bytes - SAMPLE.len() - 1)).as_bytes()].concat();
     for (bytes, words) in [(65_536, "refused, LONGLINE (3) at line 5: "), (65_537, "refused, LONGTEXT (2)\n")] {
         let path = file(&format!("text_of_{bytes}"), &filler(bytes));
-        let said = lpac(&["check", path.to_str().unwrap()], b"");
+        let said = run_lpac(&["check", path.to_str().unwrap()], b"");
         assert!(String::from_utf8(said.stdout).unwrap().contains(words));
         assert_eq!(said.status.code(), Some(1));
     }

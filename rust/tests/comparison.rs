@@ -4,21 +4,12 @@ mod common;
 
 use common::run_check_program;
 use lofashunge::host;
-use lofashunge::independent::{self, Answer, LONGTEXT, SHORT};
+use lofashunge::independent::{check_hosted, Answer, SHORT};
 use lofashunge::texts::text;
 
 const TEXTS: u64 = 240_000;
-/// Every so many texts one goes through the check program; prime to the kinds of texts, so that all kinds do.
+/// Of so many texts one goes through the check program; prime to the kinds of texts, so that all kinds do.
 const PROGRAM_EVERY: u64 = 47;
-const LEAST_OF_EACH: u64 = 500;
-
-/// What the rules say with the room and the limit of the host call.
-fn expected(text: &[u8]) -> Answer {
-    if text.len() > host::TEXT_BYTES {
-        return Answer { verdict: LONGTEXT, ..Answer::default() };
-    }
-    independent::check(text, 8000, 6560)
-}
 
 /// The counts of the verdicts over every `step`-th text, each of which `compare` has looked at, split over the machine's cores.
 fn count(step: u64, compare: fn(&[u8], Answer)) -> [u64; 17] {
@@ -27,7 +18,7 @@ fn count(step: u64, compare: fn(&[u8], Answer)) -> [u64; 17] {
         let mut counts = [0; 17];
         for number in (core * step..TEXTS).step_by((cores * step) as usize) {
             let text = text(number);
-            let answer = expected(&text);
+            let answer = check_hosted(&text);
             compare(&text, answer);
             counts[answer.verdict as usize] += 1;
         }
@@ -46,15 +37,21 @@ fn print(title: &str, counts: [u64; 17]) {
     println!("{title}: {} texts\n{}", counts.iter().sum::<u64>(), rows.concat());
 }
 
+/// Every verdict but SHORT, which can't come up in the callee's own room, so many times.
+fn each_comes_up(least: u64, counts: [u64; 17]) {
+    for (verdict, n) in counts.into_iter().enumerate() {
+        assert!(if verdict as u64 == SHORT { n == 0 } else { n >= least }, "verdict {verdict}: {n} texts");
+    }
+}
+
 fn call(text: &[u8], answer: Answer) {
     let said = host::check(text);
     assert_eq!((said.number, said.line), (answer.verdict, answer.line), "{}", text.escape_ascii());
 }
 
-fn program(text: &[u8], a: Answer) {
+fn program(text: &[u8], answer: Answer) {
     let said = run_check_program(text);
-    let numbers = [a.verdict, a.line, a.index, a.products, a.polynomials, a.terms].map(|n| n.to_string()).join("\t");
-    assert_eq!(String::from_utf8(said.stdout).unwrap(), numbers + "\n", "{}", text.escape_ascii());
+    assert_eq!(String::from_utf8(said.stdout).unwrap(), format!("{answer}\n"), "{}", text.escape_ascii());
     assert!(said.status.success());
 }
 
@@ -62,15 +59,12 @@ fn program(text: &[u8], a: Answer) {
 fn the_host_call_says_what_the_independent_checker_says() {
     let counts = count(1, call);
     print("host call", counts);
-    for (verdict, n) in counts.iter().enumerate().filter(|(v, _)| *v as u64 != SHORT) {
-        assert!(*n >= LEAST_OF_EACH, "verdict {verdict}: {n} texts");
-    }
-    assert_eq!(counts[SHORT as usize], 0, "the room is the call's own");
+    each_comes_up(500, counts);
 }
 
 #[test]
 fn the_check_program_prints_the_six_numbers_of_the_independent_checker() {
     let counts = count(PROGRAM_EVERY, program);
     print("check program", counts);
-    assert!(counts.iter().sum::<u64>() >= 5_000);
+    each_comes_up(10, counts);
 }

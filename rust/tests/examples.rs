@@ -2,11 +2,11 @@
 
 mod common;
 
-use common::{at_root, run, run_check_program};
+use common::{at_root, run, run_check_program, run_lpac};
 use lofashunge::host::{self, VERDICTS};
 use lofashunge::multiplier::{self, Style};
 use std::path::{Path, PathBuf};
-use std::process::Command;
+use std::process::{Command, Output};
 
 /// Each file with what the command says of it, and its verdict and line.
 const EXAMPLES: [(&str, &str, &str); 3] = [
@@ -15,11 +15,16 @@ const EXAMPLES: [(&str, &str, &str); 3] = [
     ("examples/sample.lpac", "accepted", "0\t0"),
 ];
 
+/// What `lpac check` gives for these files.
+fn check(names: impl Iterator<Item = &'static str>) -> Output {
+    let arguments: Vec<&str> = std::iter::once("check").chain(names).collect();
+    run_lpac(&arguments, b"")
+}
+
 #[test]
 fn the_command_tells_of_each_file_in_the_order_of_the_arguments() {
     let many: Vec<_> = EXAMPLES.iter().cycle().take(40).collect();
-    let said =
-        Command::new(env!("CARGO_BIN_EXE_lpac")).current_dir(at_root("")).arg("check").args(many.iter().map(|e| e.0)).output().unwrap();
+    let said = check(many.iter().map(|e| e.0));
     let expected: String = many.iter().map(|(name, words, _)| format!("{name}: {words}\n")).collect();
     assert_eq!(String::from_utf8(said.stdout).unwrap(), expected);
     assert_eq!(said.status.code(), Some(1));
@@ -28,7 +33,7 @@ fn the_command_tells_of_each_file_in_the_order_of_the_arguments() {
 #[test]
 fn the_command_has_status_0_where_all_are_accepted() {
     let names = EXAMPLES.iter().filter(|e| e.1 == "accepted").map(|e| e.0);
-    let said = Command::new(env!("CARGO_BIN_EXE_lpac")).current_dir(at_root("")).arg("check").args(names).output().unwrap();
+    let said = check(names);
     assert_eq!(said.status.code(), Some(0));
 }
 
@@ -42,7 +47,7 @@ fn the_check_program_gives_the_same_verdict_and_line() {
 
 #[test]
 fn help_lists_every_verdict() {
-    let said = Command::new(env!("CARGO_BIN_EXE_lpac")).arg("--help").output().unwrap();
+    let said = run_lpac(&["--help"], b"");
     let words = String::from_utf8(said.stdout).unwrap();
     for (number, (name, when)) in VERDICTS.iter().enumerate() {
         assert!(words.contains(&format!("{number:2}  {name:10}  {when}\n")));

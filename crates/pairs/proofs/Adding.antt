@@ -9,27 +9,27 @@ use lib.Bits.{bitOr}
 use lib.ListN.{length, drop}
 use borrow.Author.Tests.{lt-ltb, le-ltb}
 use Rattle.words.specs.Parts.{part, Within}
-use Rattle.words.proofs.Parts.{drop-more, above-kept, below-kept}
+use Rattle.words.proofs.Parts.{take-fewer, drop-more, above-kept, below-kept}
 use Rattle.limits.specs.Limits.{fieldTerms, lineProducts, termWords, mostPoolTerms}
 use Rattle.limits.specs.Verdicts.{MISSING, PRODUCTS}
 use Rattle.algebra.specs.Polynomial.{Poly, products, vars}
 use Rattle.words.specs.Words.{number}
 use Rattle.terms.specs.Terms.{decode, rounded, Appended}
-use Rattle.terms.proofs.Decode.{decode-length, decode-part, decode-below, decode-above}
-use Rattle.paper.specs.Grammar.{Bytes, decimal, polynomial, pair}
+use Rattle.terms.proofs.Decode.{decode-length, decode-same, decode-part, decode-below, decode-above}
+use Rattle.paper.specs.Grammar.{Bytes, decimal, pair}
 use Rattle.paper.specs.Statement.{Pair, reduced}
 use Rattle.paper.specs.Rules.{Store, stored, find}
 use Rattle.reader.specs.Places.{Got}
-use Rattle.fields.specs.Fields.{Good, isField}
 use Rattle.fields.specs.declared.FieldRun.{FieldRun}
-use Rattle.table.specs.Table.{polyAt, firsts, entryAt}
+use Rattle.table.specs.declared.Table.{Table}
+use Rattle.table.specs.Table.{polyAt, storeOf}
 use Rattle.table.specs.Steps.{Absent, FirstAt}
 use Rattle.table.proofs.Packing.{ends-used}
 use Rattle.table.proofs.Laws.{absent-stored, found-stored, found-find}
 use Rattle.regions.specs.Regions.{statedAt, factorAt, goalAt, ReducedAt}
 use Rattle.pairs.specs.declared.Sum.{Sum}
-use Rattle.pairs.specs.Pairs.{isSmall, PairsAt, PoolHolds, Lies, Kept, Extended, PairAdded}
-use Rattle.pairs.proofs.Walking.{Next, next-pair, index-good, index-same, factor-inside, factor-good, factor-same, end-same}
+use Rattle.pairs.specs.Pairs.{PairsAt, PoolHolds, Lies, Kept, Extended, PairAdded}
+use Rattle.pairs.proofs.Walking.{Next, next-pair, index-same, factor-same, end-same}
 
 -- ---- the other regions
 pub kept-refl : {s : List ℕ} → Kept s s
@@ -37,6 +37,10 @@ kept-refl = record { stated = refl; goal = refl; same = refl }
 
 pub kept-trans : {s x r : List ℕ} → Kept s x → Kept x r → Kept s r
 kept-trans p q = record { stated = q .stated ∙ p .stated; goal = q .goal ∙ p .goal; same = q .same ∙ p .same }
+
+-- the stated region in terms
+pub kept-stated : (s r : List ℕ) → Kept s r → (n : ℕ) → n * termWords ≤ factorAt - statedAt → decode n (drop statedAt r) ≡ decode n (drop statedAt s)
+kept-stated s r k n h = decode-same n (drop statedAt s) (drop statedAt r) (take-fewer (n * termWords) (factorAt - statedAt) (drop statedAt s) (drop statedAt r) h (k .stated))
 
 kept-front : (a e : ℕ) (s r : List ℕ) → Within a e s r → e ≤ statedAt → Kept s r
 kept-front a e s r w h =
@@ -102,23 +106,20 @@ extended-as {p} {p′} {q} {q′} terms {earlier} {s} {x} {r} {sum} ep eq d k a 
     }
 
 -- ---- the pair at hand
-module _ (indices starts counts pool : List ℕ) (n : ℕ) (line : Bytes) (at : ℕ) where
+module _ (indices starts counts pool : List ℕ) (n : ℕ) where
+  abbrev columns : Table
+  columns = record { indices = indices; starts = starts; counts = counts; stored = n; used = 0 }
+
   abbrev store : Store
-  store = firsts (entryAt indices starts counts pool) n
+  store = storeOf columns pool
 
-  module _ (qs : List Pair) (w : PairsAt line at qs) (h : at < length line) where
+  module _ {line : Bytes} {at : ℕ} {qs : List Pair} (w : PairsAt line at qs) (h : at < length line) where
     next : Next line at qs
-    next = next-pair line at qs w h
+    next = next-pair w h
 
-    pub head-index : Good decimal isSmall line (at + 1)
-    head-index = index-good line at qs next
-
-    module _ (x m : ℕ) (g : Got decimal line (at + 1) x m) where
-      pub head-factor : (m < length line) × Good polynomial isField line (m + 1)
-      head-factor = (factor-inside line at qs next x m g, factor-good line at qs next x m g)
-
+    module _ {x m : ℕ} (g : Got decimal line (at + 1) x m) where
       same : x ≡ next .head .index
-      same = index-same line at qs next x m g
+      same = index-same next g
 
       pub pair-missing : Absent indices n x → (k terms earlier : ℕ) (s seen : List ℕ)
           → {c : Sum} → c ≡ record { verdict = MISSING; terms = 0; seen = seen } → PairAdded k store line at terms earlier s s (record { sum = c; end = at })
@@ -128,27 +129,27 @@ module _ (indices starts counts pool : List ℕ) (n : ℕ) (line : Bytes) (at : 
           not-stored : stored store (next .head .index) ≡ true → ⊥
           not-stored t =
               let f : stored store (next .head .index) ≡ false
-              = ap (stored store) (sym same) ∙ absent-stored (record { indices = indices; starts = starts; counts = counts; stored = n; used = 0 }) pool x d in
+              = ap (stored store) (sym same) ∙ absent-stored columns pool x d in
               let z : _≡_ {A = ℕ} 0 1 = cc in
               omega arith
 
-      pub pair-added : (j k terms earlier : ℕ) (s y r : List ℕ) (f : FieldRun) (sum : Sum) → terms ≤ lineProducts → FirstAt indices n x j
+      pub pair-added : {j k terms earlier : ℕ} {s y r : List ℕ} {f : FieldRun} {sum : Sum} → terms ≤ lineProducts → FirstAt indices n x j
           → ReducedAt line (m + 1) k factorAt s y f → Extended (decode (f .terms) (drop factorAt y)) (polyAt starts counts pool j) terms earlier y r sum
           → PairAdded k store line at terms earlier s r (record { sum = sum; end = f .end })
-      pair-added j k terms earlier s y r f sum l o d a = record {
+      pair-added {j} {k} {terms} {earlier} {s} {y} {r} {f} {sum} l o d a = record {
         value = next .head;
         end = f .end;
-        taken = subst (λ (e : ℕ). Got pair line (at + 1) (next .head) e) (end-same line at qs next x m g (d .value) (f .end) (d .taken)) (next .taken);
+        taken = subst (λ (e : ℕ). Got pair line (at + 1) (next .head) e) (end-same next g (d .taken)) (next .taken);
         missing = λ t. absurd (is-stored t);
         extended = λ _. (refl, whole);
         kept = whole .kept;
       }
         where
           factor : decode (f .terms) (drop factorAt y) ≡ reduced k (next .head .factor)
-          factor = d .run ∙ ap (reduced k) (factor-same line at qs next x m g (d .value) (f .end) (d .taken))
+          factor = d .run ∙ ap (reduced k) (factor-same next g (d .taken))
 
           named : polyAt starts counts pool j ≡ find store (next .head .index)
-          named = sym (found-find (record { indices = indices; starts = starts; counts = counts; stored = n; used = 0 }) pool x j o) ∙ ap (find store) same
+          named = sym (found-find columns pool x j o) ∙ ap (find store) same
 
           whole : Extended (reduced k (next .head .factor)) (find store (next .head .index)) terms earlier s r sum
           whole = extended-as terms factor named (decode-below terms factorAt goalAt s y (d .within) (omega arith)) (kept-factor s y (d .within)) a
@@ -156,7 +157,7 @@ module _ (indices starts counts pool : List ℕ) (n : ℕ) (line : Bytes) (at : 
           is-stored : stored store (next .head .index) ≡ false → ⊥
           is-stored t =
               let f : stored store (next .head .index) ≡ true
-              = ap (stored store) (sym same) ∙ found-stored (record { indices = indices; starts = starts; counts = counts; stored = n; used = 0 }) pool x j o in
+              = ap (stored store) (sym same) ∙ found-stored columns pool x j o in
               let z : _≡_ {A = ℕ} 0 1 = cc in
               omega arith
 

@@ -1,31 +1,26 @@
 -- What the contract of `sum_pairs` decides: how the pairs are refused, else how many products there are, their words and the
--- variables seen, and the regions that it has no business with. The words behind the products, the factor's region, and what it
--- says beside a refusal are left open. Assumes nothing.
+-- variables seen, and that the stated region and all from the goal's on are kept. The words behind the products, the factor's
+-- region, and what it says beside a refusal are left open. Assumes nothing.
 use mathlib.Core.Path.{_≡_, sym, ap, _∙_}
 use mathlib.Core.List.{List}
 use Prim.Native.Nat.{ℕ, _*_}
-use native.Mathlib.Omega.{arith}
-use lib.ListN.{length, take, drop}
-use Rattle.limits.specs.Limits.{setWords, fieldTerms, termWords}
-use Rattle.words.specs.Parts.{part}
+use lib.ListN.{length, take}
+use Rattle.limits.specs.Limits.{setWords, termWords}
 use Rattle.words.proofs.Laws.{Words}
 use Rattle.words.proofs.Decided.{one-set}
 use Rattle.terms.specs.Terms.{decode}
-use Rattle.terms.proofs.Decided.{one-run, one-run-at}
+use Rattle.terms.proofs.Decided.{one-run}
 use Rattle.paper.specs.Rules.{Store}
 use Rattle.paper.specs.Grammar.{Bytes}
 use Rattle.paper.specs.Statement.{Pair}
-use Rattle.regions.specs.Regions.{statedAt, goalAt}
-use Rattle.pairs.specs.Pairs.{PairsAt, Summed}
+use Rattle.pairs.specs.Pairs.{PairsAt, Summed, Kept}
 use Rattle.pairs.specs.declared.Sum.{Sum}
 
 pub record SameSum (r q : List ℕ) (x y : Sum) : Type 0 where
   pub verdict : x .verdict ≡ y .verdict
   pub sum : x .verdict ≡ 0 → x ≡ y
   pub products : x .verdict ≡ 0 → take (x .terms * termWords) r ≡ take (x .terms * termWords) q
-  pub stated : part statedAt (fieldTerms * termWords) r ≡ part statedAt (fieldTerms * termWords) q
-  pub goal : drop goalAt r ≡ drop goalAt q
-  pub length : length r ≡ length q
+  pub kept : Kept q r
 
 module _ (k : ℕ) (store : Store) (qs : List Pair) (earlier : ℕ) (s : List ℕ) where
   summed-alike : (r q : List ℕ) (x y : Sum) → Words r → Words q → Words (x .seen) → Words (y .seen) → length (x .seen) ≡ setWords → length (y .seen) ≡ setWords
@@ -34,13 +29,11 @@ module _ (k : ℕ) (store : Store) (qs : List Pair) (earlier : ℕ) (s : List �
     verdict = verdict;
     sum = λ n i. record { verdict = verdict i; terms = terms n i; seen = seen n i };
     products = λ n. one-run (x .terms) r q same f g (a .run n ∙ sym (b .run (no n)) ∙ ap (λ (c : ℕ). decode c q) (sym (terms n)));
-    stated = one-run-at statedAt fieldTerms r q same f g (a .stated fieldTerms (omega arith) ∙ sym (b .stated fieldTerms (omega arith)));
-    goal = a .goal ∙ sym (b .goal);
-    length = same;
+    kept = record { stated = a .kept .stated ∙ sym (b .kept .stated); goal = a .kept .goal ∙ sym (b .kept .goal); same = same };
   }
     where
       same : length r ≡ length q
-      same = a .same ∙ sym (b .same)
+      same = a .kept .same ∙ sym (b .kept .same)
 
       verdict : x .verdict ≡ y .verdict
       verdict = a .verdict ∙ sym (b .verdict)

@@ -1,8 +1,7 @@
 -- Products of a run with another, appended term by term of the first to the front of the scratch. Assumes nothing.
 use mathlib.Core.Path.{_≡_, sym, ap, subst, _∙_}
-use mathlib.Core.List.{List, [], _∷_, _++_, append-assoc}
-use Prim.Native.Nat.{ℕ, _+_, _*_, _≤_, _<_}
-use native.Mathlib.Nat.{mul-le-mul-right}
+use mathlib.Core.List.{List, _++_, append-assoc}
+use Prim.Native.Nat.{ℕ, _+_, _*_, _≤_}
 use native.Mathlib.Omega.{arith}
 use lib.ListN.{length, take, drop, take-append-drop}
 use lib.Seq.{length-take-le, length-front, take-append-le, drop-append-le, take-take, drop-drop}
@@ -11,19 +10,12 @@ use Rattle.words.proofs.Parts.{within-trans, within-wider, above-kept}
 use Rattle.limits.specs.Limits.{termWords}
 use Rattle.algebra.specs.Polynomial.{Poly, times, products}
 use Rattle.terms.specs.Terms.{termOf, decode, rounded, Appended}
-use Rattle.terms.proofs.Decode.{decode-last, decode-same, decode-part}
+use Rattle.terms.proofs.Decode.{decode-same, decode-part}
 use Rattle.terms.proofs.Products.{appended-start}
-use Rattle.regions.proofs.Squares.{rounded-append, products-last}
-
--- one row more of m each
-pub row-more : (i m : ℕ) → (i + 1) * m ≡ i * m + m
-row-more i m = omega arith
-
-pub row-fits : (i f m : ℕ) → i < f → i * m + m ≤ f * m
-row-fits i f m h = rw (← row-more i m) (mul-le-mul-right {m = i + 1} {n = f} m (omega arith))
+use Rattle.regions.proofs.Squares.{row-more, one-row}
 
 -- ---- a run at the front of the words, of which the first w were lent
-pub front-appended : (n m w : ℕ) (q : Poly) (x ys : List ℕ) → (n + m) * termWords ≤ w → w ≤ length x → Appended 0 n m q (take w x) ys → Appended 0 n m q x (ys ++ drop w x)
+front-appended : (n m w : ℕ) (q : Poly) (x ys : List ℕ) → (n + m) * termWords ≤ w → w ≤ length x → Appended 0 n m q (take w x) ys → Appended 0 n m q x (ys ++ drop w x)
 front-appended n m w q x ys h l a = record {
   terms = decode-same (n + m) ys (ys ++ drop w x) (take-append-le ((n + m) * termWords) ys (drop w x) (omega (arith, long))) ∙ a .terms
       ∙ ap (λ (p : Poly). p ++ q) (decode-part n 0 w x (omega arith));
@@ -42,7 +34,7 @@ front-appended n m w q x ys h l a = record {
     long = a .within .same ∙ cut
 
 -- ---- what is appended twice
-pub appended-then : (n a m : ℕ) (p q : Poly) (s x r : List ℕ) → Appended 0 n a p s x → Appended 0 (n + a) m q x r → Appended 0 n (a + m) (p ++ q) s r
+appended-then : (n a m : ℕ) (p q : Poly) (s x r : List ℕ) → Appended 0 n a p s x → Appended 0 (n + a) m q x r → Appended 0 n (a + m) (p ++ q) s r
 appended-then n a m p q s x r u v =
     let e : n + (a + m) ≡ n + a + m = omega arith in
     record {
@@ -73,5 +65,5 @@ module _ (n at m : ℕ) (b s : List ℕ) where
           ∙ ap (take termWords) (sym (drop-drop (i * termWords) at s))
 
       more : rounded (products (decode (i + 1) (drop at s)) (decode m b)) ≡ rounded (products (decode i (drop at s)) (decode m b)) ++ rounded (times (termOf u) (decode m b))
-      more = ap (λ (p : Poly). rounded (products p (decode m b))) (decode-last i (drop at s) ∙ ap (λ (y : List ℕ). decode i (drop at s) ++ (termOf y ∷ [])) (sym next))
-          ∙ ap rounded (products-last (decode i (drop at s)) (decode m b) (termOf u)) ∙ rounded-append (products (decode i (drop at s)) (decode m b)) (times (termOf u) (decode m b))
+      more = one-row i (drop at s) (decode m b)
+          ∙ ap (λ (y : List ℕ). rounded (products (decode i (drop at s)) (decode m b)) ++ rounded (times (termOf y) (decode m b))) (sym next)

@@ -1,4 +1,4 @@
--- All pairs: what is done and what those left give is the whole, of counts, of products and of variables seen. Assumes nothing.
+-- All pairs: the products and variables of those done, with those of the pairs left, are those of the whole line. Assumes nothing.
 use mathlib.Core.Path.{_≡_, refl, sym, ap, ap₂, subst, _∙_}
 use mathlib.Core.Bool.{Bool, true, false, _&&_, not, cond}
 use mathlib.Core.Logic.{⊎-elim}
@@ -7,34 +7,27 @@ use Prim.Native.Nat.{ℕ, _+_, _-_, _*_, _≤_, _<_}
 use native.Mathlib.Omega.{arith}
 use lib.Bits.{bitOr, or-comm}
 use lib.Dec.{ltb}
-use lib.ListN.{length, drop}
+use lib.ListN.{length}
 use borrow.Author.Tests.{ltb-true, lt-ltb, le-ltb}
 use Rattle.ground.specs.Lists.{every, total}
-use Rattle.words.proofs.Parts.{take-fewer}
 use Rattle.ground.proofs.Tests.{split}
-use Rattle.limits.specs.Limits.{lineProducts, termWords}
+use Rattle.limits.specs.Limits.{lineProducts}
 use Rattle.limits.specs.Verdicts.{MISSING, PRODUCTS}
 use Rattle.algebra.specs.Polynomial.{Poly, products, vars, allVars}
 use Rattle.algebra.proofs.Unions.{or-assoc}
 use Rattle.words.specs.Words.{number}
 use Rattle.terms.specs.Terms.{decode, rounded}
-use Rattle.terms.proofs.Decode.{decode-same}
 use Rattle.paper.specs.Grammar.{Bytes, pair}
 use Rattle.paper.specs.Statement.{Pair, reduced}
 use Rattle.paper.specs.Rules.{Store, stored, find, combination}
 use Rattle.reader.proofs.Fields.{same-end}
 use Rattle.fields.proofs.Taking.{same-value}
-use Rattle.regions.specs.Regions.{statedAt, factorAt}
 use Rattle.regions.proofs.Squares.{rounded-append}
 use Rattle.pairs.specs.declared.Sum.{Sum}
 use Rattle.pairs.specs.declared.Added.{Added}
-use Rattle.pairs.specs.Pairs.{PairsAt, productsOf, refuses, Summed, Kept, Extended, PairAdded}
+use Rattle.pairs.specs.Pairs.{PairsAt, allStored, productsOf, refuses, Summed, Kept, Extended, PairAdded}
 use Rattle.pairs.proofs.Walking.{Next, next-pair, pairs-end, same-pairs}
 use Rattle.pairs.proofs.Adding.{kept-refl, kept-trans}
-
--- the stated region in terms
-kept-stated : (s r : List ℕ) → Kept s r → (n : ℕ) → n * termWords ≤ factorAt - statedAt → decode n (drop statedAt r) ≡ decode n (drop statedAt s)
-kept-stated s r k n h = decode-same n (drop statedAt s) (drop statedAt r) (take-fewer (n * termWords) (factorAt - statedAt) (drop statedAt s) (drop statedAt r) h (k .stated))
 
 -- ---- the verdicts
 abbrev refusing : Bool → Bool → ℕ
@@ -59,25 +52,22 @@ module _ (k : ℕ) (store : Store) where
   abbrev factors : List Pair → List Poly
   factors = map (λ q. reduced k (q .factor))
 
-  abbrev allStored : List Pair → Bool
-  allStored qs = every (stored store) (map (λ q. q .index) qs)
-
   -- `left` of the pairs `whole` are not yet added to the terms from word 0 of x on, and the others are stored
   pub record Done (line : Bytes) (at i earlier terms all : ℕ) (s x : List ℕ) : Type 0 where
     pub whole : List Pair
     pub left : List Pair
     pub first : PairsAt line at whole
     pub reads : PairsAt line i left
-    pub stand : allStored whole ≡ allStored left
+    pub stand : allStored store whole ≡ allStored store left
     pub count : terms + productsOf k named left ≡ productsOf k named whole
     pub most : terms ≤ lineProducts
     pub run : decode terms x ++ rounded (combination k named left) ≡ rounded (combination k named whole)
     pub seen : bitOr (allVars (factors left)) all ≡ bitOr (allVars (factors whole)) earlier
     pub kept : Kept s x
 
-  pub done-start : (line : Bytes) (at earlier : ℕ) (s : List ℕ) (qs : List Pair) → PairsAt line at qs → Done line at at earlier 0 earlier s s
+  pub done-start : {line : Bytes} {at : ℕ} (earlier : ℕ) (s : List ℕ) {qs : List Pair} → PairsAt line at qs → Done line at at earlier 0 earlier s s
   unfolding decode
-  done-start line at earlier s qs w = record {
+  done-start earlier s {qs} w = record {
     whole = qs;
     left = qs;
     first = w;
@@ -90,15 +80,15 @@ module _ (k : ℕ) (store : Store) where
     kept = kept-refl;
   }
 
-  module _ (line : Bytes) (at i earlier terms all : ℕ) (s x : List ℕ) (d : Done line at i earlier terms all s x) where
+  module _ {line : Bytes} {at i earlier terms all : ℕ} {s x : List ℕ} (d : Done line at i earlier terms all s x) where
     done-end : (seen : List ℕ) → number seen ≡ all → length line ≤ i → (qs : List Pair) → PairsAt line at qs
         → Summed k store qs earlier s x (record { verdict = 0; terms = terms; seen = seen })
     unfolding productsOf combination total rounded allVars every
     done-end seen e h qs w =
-        let o : d .left ≡ [] = pairs-end line i (d .left) (d .reads) h in
+        let o : d .left ≡ [] = pairs-end (d .reads) h in
         let q : d .whole ≡ qs = same-pairs (d .first) w in
         let c : terms + productsOf k named [] ≡ productsOf k named (d .whole) = ap (λ (l : List Pair). terms + productsOf k named l) (sym o) ∙ d .count in
-        let a : allStored (d .whole) ≡ true = d .stand ∙ ap allStored o in
+        let a : allStored store (d .whole) ≡ true = d .stand ∙ ap (allStored store) o in
         let r : decode terms x ++ rounded (combination k named []) ≡ rounded (combination k named (d .whole))
         = ap (λ (l : List Pair). decode terms x ++ rounded (combination k named l)) (sym o) ∙ d .run in
         let v : bitOr 0 all ≡ bitOr (allVars (factors (d .whole))) earlier = ap (λ (l : List Pair). bitOr (allVars (factors l)) all) (sym o) ∙ d .seen in
@@ -108,9 +98,7 @@ module _ (k : ℕ) (store : Store) where
           most = λ _. d .most;
           run = λ _. sym (append-nil (decode terms x)) ∙ r;
           seen = λ _. e ∙ v;
-          stated = kept-stated s x (d .kept);
-          goal = d .kept .goal;
-          same = d .kept .same;
+          kept = d .kept;
         })
 
     -- of a sum that is not refused
@@ -119,9 +107,9 @@ module _ (k : ℕ) (store : Store) where
     done-last sum o t e h qs w =
         subst (Summed k store qs earlier s x) (λ j. record { verdict = sym o j; terms = sym t j; seen = sum .seen }) (done-end (sum .seen) e h qs w)
 
-    module _ (h : i < length line) (r : List ℕ) (a : Added) (p : PairAdded k store line i terms all x r a) where
+    module _ (h : i < length line) {r : List ℕ} {a : Added} (p : PairAdded k store line i terms all x r a) where
       next : Next line i (d .left)
-      next = next-pair line i (d .left) (d .reads) h
+      next = next-pair (d .reads) h
 
       parts : d .left ≡ p .value ∷ next .tail
       parts = next .whole ∙ ap (λ (q : Pair). q ∷ next .tail) (same-value (next .taken .reads) (p .taken .reads))
@@ -130,9 +118,9 @@ module _ (k : ℕ) (store : Store) where
       unfolding productsOf total
       counted = ap (λ (l : List Pair). terms + productsOf k named l) (sym parts) ∙ d .count
 
-      left-stored : (b : Bool) → stored store (p .value .index) ≡ b → allStored (d .left) ≡ (b && allStored (next .tail))
+      left-stored : (b : Bool) → stored store (p .value .index) ≡ b → allStored store (d .left) ≡ (b && allStored store (next .tail))
       unfolding every
-      left-stored b e = ap allStored parts ∙ ap (λ (t : Bool). t && allStored (next .tail)) e
+      left-stored b e = ap (allStored store) parts ∙ ap (λ (t : Bool). t && allStored store (next .tail)) e
 
       tail-reads : stored store (p .value .index) ≡ true → PairsAt line (a .end) (next .tail)
       tail-reads t = subst (λ (j : ℕ). PairsAt line j (next .tail)) (same-end pair line (i + 1) (next .taken) (p .taken) .1 ∙ sym (p .extended t .0)) (next .rest)
@@ -144,26 +132,23 @@ module _ (k : ℕ) (store : Store) where
       pub done-rest : (qs : List Pair) × PairsAt line (a .end) qs
       done-rest = ⊎-elim (λ t. (next .tail, tail-reads t)) (λ f. (d .left, left-reads f)) (split (stored store (p .value .index)))
 
-      refused : (sum : Sum) → (sum .verdict ≡ 0 → ⊥) → sum .verdict ≡ refuses (allStored (d .whole)) (productsOf k named (d .whole)) → (qs : List Pair) → PairsAt line at qs
+      refused : (sum : Sum) → (sum .verdict ≡ 0 → ⊥) → sum .verdict ≡ refuses (allStored store (d .whole)) (productsOf k named (d .whole)) → (qs : List Pair) → PairsAt line at qs
           → Summed k store qs earlier s r sum
       refused sum nonzero e qs w =
-          let j = kept-trans (d .kept) (p .kept) in
           subst (λ (l : List Pair). Summed k store l earlier s r sum) (same-pairs (d .first) w) (record {
             verdict = e;
             count = λ t. absurd (nonzero t);
             most = λ t. absurd (nonzero t);
             run = λ t. absurd (nonzero t);
             seen = λ t. absurd (nonzero t);
-            stated = kept-stated s r j;
-            goal = j .goal;
-            same = j .same;
+            kept = kept-trans (d .kept) (p .kept);
           })
 
       -- refused at this pair, as one that names nothing stored or as too many products
-      module _ (nonzero : a .sum .verdict ≡ 0 → ⊥) (sum : Sum) (o : (qs : List Pair) → PairsAt line (a .end) qs → sum .verdict ≡ cond (allStored qs) (a .sum .verdict) MISSING) where
+      module _ (nonzero : a .sum .verdict ≡ 0 → ⊥) (sum : Sum) (o : (qs : List Pair) → PairsAt line (a .end) qs → sum .verdict ≡ cond (allStored store qs) (a .sum .verdict) MISSING) where
         at-missing : stored store (p .value .index) ≡ false → (qs : List Pair) → PairsAt line at qs → Summed k store qs earlier s r sum
         at-missing f =
-            let l : allStored (d .left) ≡ false = left-stored false f in
+            let l : allStored store (d .left) ≡ false = left-stored false f in
             let v : sum .verdict ≡ MISSING = o (d .left) (left-reads f) ∙ ap (λ (b : Bool). cond b (a .sum .verdict) MISSING) l in
             refused sum (λ z. omega (arith, v, z)) (v ∙ sym (ap (λ (b : Bool). refuses b (productsOf k named (d .whole))) (d .stand ∙ l)))
 
@@ -173,11 +158,11 @@ module _ (k : ℕ) (store : Store) where
             let l : lineProducts < terms + length (reduced k (p .value .factor)) * length (named (p .value .index))
             = over-many (terms + length (reduced k (p .value .factor)) * length (named (p .value .index))) (a .sum .verdict) nonzero e in
             let u : a .sum .verdict ≡ PRODUCTS = e ∙ ap (refusing true) (lt-ltb lineProducts (terms + length (reduced k (p .value .factor)) * length (named (p .value .index))) l) in
-            let v : sum .verdict ≡ cond (allStored (next .tail)) PRODUCTS MISSING
-            = o (next .tail) (tail-reads t) ∙ ap (λ (m : ℕ). cond (allStored (next .tail)) m MISSING) u in
+            let v : sum .verdict ≡ cond (allStored store (next .tail)) PRODUCTS MISSING
+            = o (next .tail) (tail-reads t) ∙ ap (λ (m : ℕ). cond (allStored store (next .tail)) m MISSING) u in
             let m : lineProducts < productsOf k named (d .whole) = omega (arith, counted, l) in
-            refused sum (λ z. over-refused (allStored (next .tail)) (sym v ∙ z))
-            (v ∙ over-swapped (allStored (next .tail)) ∙ sym (ap₂ refusing (d .stand ∙ left-stored true t) (lt-ltb lineProducts (productsOf k named (d .whole)) m)))
+            refused sum (λ z. over-refused (allStored store (next .tail)) (sym v ∙ z))
+            (v ∙ over-swapped (allStored store (next .tail)) ∙ sym (ap₂ refusing (d .stand ∙ left-stored true t) (lt-ltb lineProducts (productsOf k named (d .whole)) m)))
 
         pub done-stop : (qs : List Pair) → PairsAt line at qs → Summed k store qs earlier s r sum
         done-stop = ⊎-elim at-over at-missing (split (stored store (p .value .index)))

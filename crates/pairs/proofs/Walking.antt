@@ -40,7 +40,7 @@ tab-parts s m p r e =
     let l = literal-inside (bytes "\t") (drop m s) (t .value) (t .rest) (t .first) in
     (omega (arith, l .0, length-drop m s), ap polynomial (sym (l .1 ∙ drop-drop 1 m s)) ∙ t .second)
 
-pub pair-parts : (s : Bytes) (at : ℕ) (q : Pair) (r : Bytes) → at ≤ length s → pair (drop at s) ≡ got q r → (e : ℕ) × PairParts s at q e × (r ≡ drop e s)
+pair-parts : (s : Bytes) (at : ℕ) (q : Pair) (r : Bytes) → at ≤ length s → pair (drop at s) ≡ got q r → (e : ℕ) × PairParts s at q e × (r ≡ drop e s)
 unfolding pair
 pair-parts s at q r h e =
     let p = parted (decimal (drop at s)) _ e in
@@ -86,17 +86,17 @@ tail-every : (f : Pair → Bool) (q : Pair) (qs : List Pair) → every f (q ∷ 
 unfolding every
 tail-every f q qs e = and-right (f q) (every f qs) e
 
-module _ (s : Bytes) (at : ℕ) (qs : List Pair) (w : PairsAt s at qs) where
+module _ {s : Bytes} {at : ℕ} {qs : List Pair} (w : PairsAt s at qs) where
   pub pairs-end : length s ≤ at → qs ≡ []
   pairs-end h = same-value (w .reads) (each-end (code "\t") pair s at h)
 
-  pub pairs-tab : at < length s → getD s at 0 ≡ 9
+  pairs-tab : at < length s → getD s at 0 ≡ 9
   pairs-tab h = ⊎-elim (λ e. eqb-true (getD s at 0) 9 e) (λ e. absurd (no (eqb-false (getD s at 0) 9 e))) (split (eqb (getD s at 0) 9))
     where
       no : (getD s at 0 ≡ 9 → ⊥) → ⊥
       no n = omega (arith, ap length (same-rest (w .reads) (each-stop (code "\t") pair s at h n)), length-drop at s)
 
-  pub pairs-stop : EndsField (drop at s)
+  pairs-stop : EndsField (drop at s)
   pairs-stop = ⊎-elim
       (λ t. let h = ltb-true at (length s) t in subst (λ (l : Bytes). EndsField l) (sym (drop-cons s at 0 h)) (pairs-tab h))
       (λ t. subst (λ (l : Bytes). EndsField l) (sym (drop-of-length-le s {i = at} (omega (arith, ltb-false at (length s) t)))) tt) (split (ltb at (length s)))
@@ -151,15 +151,15 @@ pub small-got : {s : Bytes} {at n e : ℕ} → Good decimal isSmall s at → Got
 small-got {n = n} g t = let e : g .value ≡ n = same-value (g .reads) (t .reads) in omega (arith, is-small (g .value) (g .passes))
 
 -- ---- what the readers of an index and of a factor ask for
-module _ (s : Bytes) (at : ℕ) (qs : List Pair) (n : Next s at qs) where
+module _ {s : Bytes} {at : ℕ} {qs : List Pair} (n : Next s at qs) where
   pub index-good : Good decimal isSmall s (at + 1)
   index-good = let p = n .parts in record { value = n .head .index; rest = drop (p .middle) s; reads = p .index .reads; passes = small-index (n .head .index) (n .isIndex); inside = omega (arith, p .index .onward, p .index .inside) }
 
-  module _ (i m : ℕ) (g : Got decimal s (at + 1) i m) where
+  module _ {i m : ℕ} (g : Got decimal s (at + 1) i m) where
     pub index-same : i ≡ n .head .index
     index-same = same-value (g .reads) (n .parts .index .reads)
 
-    pub middle-same : m ≡ n .parts .middle
+    middle-same : m ≡ n .parts .middle
     middle-same = same-end decimal s (at + 1) g (n .parts .index) .1
 
     pub factor-inside : m < length s
@@ -169,12 +169,12 @@ module _ (s : Bytes) (at : ℕ) (qs : List Pair) (n : Next s at qs) where
     factor-here = subst (λ (k : ℕ). Got polynomial s (k + 1) (n .head .factor) (n .end)) (sym middle-same) (n .parts .factor)
 
     pub factor-whole : WholeField s (m + 1)
-    factor-whole = record { written = n .head .factor; rest = drop (n .end) s; reads = factor-here .reads; ends = pairs-stop s (n .end) (n .tail) (n .rest) }
+    factor-whole = record { written = n .head .factor; rest = drop (n .end) s; reads = factor-here .reads; ends = pairs-stop (n .rest) }
 
     pub factor-good : Good polynomial isField s (m + 1)
     factor-good = record { value = n .head .factor; rest = drop (n .end) s; reads = factor-here .reads; passes = n .isField; inside = omega (arith, factor-inside) }
 
-    module _ (f : Written) (e : ℕ) (t : Got polynomial s (m + 1) f e) where
+    module _ {f : Written} {e : ℕ} (t : Got polynomial s (m + 1) f e) where
       pub factor-same : f ≡ n .head .factor
       factor-same = same-value (t .reads) (factor-here .reads)
 

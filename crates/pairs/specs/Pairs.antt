@@ -38,6 +38,10 @@ pub record PairsAt (line : Bytes) (at : ℕ) (qs : List Pair) : Type 0 where
 abbrev pub PoolHolds : List ℕ → List ℕ → ℕ → List ℕ → Type 0
 PoolHolds starts counts n pool = (used : ℕ) × PackedColumns starts counts n used × (used * termWords ≤ length pool) × (used ≤ mostPoolTerms)
 
+-- whether all that the pairs name is stored
+abbrev pub allStored : Store → List Pair → Bool
+allStored store qs = every (stored store) (map (λ q. q .index) qs)
+
 -- the factors' terms times those of the named polynomials, added
 unfoldable pub productsOf : ℕ → (ℕ → Poly) → List Pair → ℕ
 productsOf k named qs = total (λ q. length (reduced k (q .factor)) * length (named (q .index))) qs
@@ -46,16 +50,20 @@ productsOf k named qs = total (λ q. length (reduced k (q .factor)) * length (na
 abbrev pub refuses : Bool → ℕ → ℕ
 refuses present products = cond (not present) MISSING (cond (ltb lineProducts products) PRODUCTS ACCEPTED)
 
--- refused, or all products from word 0 on, rounded as words hold them; the factor's region and that of the products may change
+-- the stated region, and all from the goal's on, are as they were
+pub record Kept (s r : List ℕ) : Type 0 where
+  pub stated : part statedAt (factorAt - statedAt) r ≡ part statedAt (factorAt - statedAt) s
+  pub goal : drop goalAt r ≡ drop goalAt s
+  pub same : length r ≡ length s
+
+-- refused, or all products from word 0 on, rounded as words hold them
 pub record Summed (k : ℕ) (store : Store) (qs : List Pair) (earlier : ℕ) (s r : List ℕ) (sum : Sum) : Type 0 where
-  pub verdict : sum .verdict ≡ refuses (every (stored store) (map (λ q. q .index) qs)) (productsOf k (find store) qs)
+  pub verdict : sum .verdict ≡ refuses (allStored store qs) (productsOf k (find store) qs)
   pub count : sum .verdict ≡ 0 → sum .terms ≡ productsOf k (find store) qs
   pub most : sum .verdict ≡ 0 → sum .terms ≤ lineProducts
   pub run : sum .verdict ≡ 0 → decode (sum .terms) r ≡ rounded (combination k (find store) qs)
   pub seen : sum .verdict ≡ 0 → number (sum .seen) ≡ bitOr (allVars (map (λ q. reduced k (q .factor)) qs)) earlier
-  pub stated : (n : ℕ) → n * termWords ≤ factorAt - statedAt → decode n (drop statedAt r) ≡ decode n (drop statedAt s)
-  pub goal : drop goalAt r ≡ drop goalAt s
-  pub same : length r ≡ length s
+  pub kept : Kept s r
 
 -- ---- one pair
 -- the j-th polynomial lies in the pool
@@ -63,12 +71,6 @@ pub record Lies (starts counts pool : List ℕ) (j : ℕ) : Type 0 where
   pub inside : j < storedPolynomials
   pub words : getD starts j 0 * termWords + getD counts j 0 * termWords ≤ length pool
   pub few : getD counts j 0 ≤ mostPoolTerms
-
--- the stated region, and all from the goal's on, are as they were
-pub record Kept (s r : List ℕ) : Type 0 where
-  pub stated : part statedAt (factorAt - statedAt) r ≡ part statedAt (factorAt - statedAt) s
-  pub goal : drop goalAt r ≡ drop goalAt s
-  pub same : length r ≡ length s
 
 -- too many products with those of p and q, or these behind the terms from word 0 on
 pub record Extended (p q : Poly) (terms earlier : ℕ) (s r : List ℕ) (sum : Sum) : Type 0 where

@@ -1,23 +1,21 @@
 // The pairs of a lin line: whether they name stored polynomials, and the products of their factors with these.
 ghost use mathlib.Core.Path.{_≡_};
 ghost use mathlib.Core.Bool.{cond};
-ghost use mathlib.Core.List.{List, map};
+ghost use mathlib.Core.List.{List};
 ghost use Prim.Native.Nat.{ℕ, _+_, _*_, _≤_, _<_};
 ghost use lib.ListN.{length, drop};
-ghost use Rattle.ground.specs.Lists.{every};
 ghost use Rattle.limits.specs.Limits.{storedPolynomials, fieldTerms, lineProducts, termWords, leastScratch};
 ghost use Rattle.limits.specs.Verdicts.{MISSING};
 ghost use Rattle.algebra.specs.Polynomial.{products};
 ghost use Rattle.words.specs.Words.{number};
 ghost use Rattle.terms.specs.Terms.{decode, rounded, Appended};
 ghost use Rattle.paper.specs.Statement.{Pair};
-ghost use Rattle.paper.specs.Rules.{stored};
 ghost use Rattle.paper.specs.Grammar.{decimal};
 ghost use Rattle.reader.specs.Places.{Got};
 ghost use Rattle.fields.specs.Fields.{Good};
 ghost use Rattle.table.specs.Table.{polyAt, firsts, entryAt};
 ghost use Rattle.regions.specs.Regions.{factorAt, goalAt};
-ghost use Rattle.pairs.specs.Pairs.{isSmall, PairsAt, PoolHolds, Summed, Lies, Extended, PairAdded};
+ghost use Rattle.pairs.specs.Pairs.{isSmall, PairsAt, PoolHolds, allStored, Summed, Lies, Extended, PairAdded};
 use table::Column;
 use table::Found;
 use table::Indices;
@@ -31,9 +29,9 @@ pub struct Sum {
 }
 
 // A sum with one pair more, and the end of this pair; or the tab before a pair that names no stored polynomial.
-pub struct Added {
-    pub sum: Sum,
-    pub end: usize,
+struct Added {
+    sum: Sum,
+    end: usize,
 }
 
 // A number that half a word holds, and its end.
@@ -59,7 +57,7 @@ fn all_stored(indices: &Indices, n: usize, line: &[u8], at: usize) -> bool
     requires { ⌜ (n ≤ storedPolynomials) × ((qs : List Pair) × PairsAt (now line) at qs) ⌝ }
     ensures { λ r. ⌜
         ((qs : List Pair) → PairsAt (now (line .entry)) at qs → (starts counts pool : List ℕ)
-        → r ≡ every (stored (firsts (entryAt (now (indices .entry)) starts counts pool) n)) (map (λ q. q .index) qs))
+        → r ≡ allStored (firsts (entryAt (now (indices .entry)) starts counts pool) n) qs)
         ⌝ }
 {
     let mut i = at;
@@ -104,9 +102,9 @@ fn refusal(verdict: u64, seen: Set) -> Sum
 }
 
 // Puts the products of the f terms of the factor's region with the j-th polynomial behind the terms from word 0 on, unless there are too many.
-fn add_products<'a>(
-    starts: &'a Column,
-    counts: &'a Column,
+fn add_products(
+    starts: &Column,
+    counts: &Column,
     j: usize,
     pool: &[u64],
     scratch: &mut [u64],
@@ -136,10 +134,10 @@ fn add_products<'a>(
 }
 
 // Puts the products of the pair behind the tab at at behind the terms from word 0 on, unless it names no stored polynomial or there are too many.
-fn add_pair<'a>(
-    indices: &'a Indices,
-    starts: &'a Column,
-    counts: &'a Column,
+fn add_pair(
+    indices: &Indices,
+    starts: &Column,
+    counts: &Column,
     n: usize,
     line: &[u8],
     at: usize,
@@ -177,7 +175,7 @@ fn stopped(indices: &Indices, n: usize, line: &[u8], a: Added) -> Sum
     requires { ⌜ (n ≤ storedPolynomials) × ((qs : List Pair) × PairsAt (now line) (a .end) qs) ⌝ }
     ensures { λ r. ⌜
         ((qs : List Pair) → PairsAt (now (line .entry)) (a .end) qs → (starts counts pool : List ℕ)
-        → r .verdict ≡ cond (every (stored (firsts (entryAt (now (indices .entry)) starts counts pool) n)) (map (λ q. q .index) qs)) (a .sum .verdict) MISSING)
+        → r .verdict ≡ cond (allStored (firsts (entryAt (now (indices .entry)) starts counts pool) n) qs) (a .sum .verdict) MISSING)
         ⌝ }
 {
     let sum = a.sum;
@@ -189,10 +187,10 @@ fn stopped(indices: &Indices, n: usize, line: &[u8], a: Added) -> Sum
 }
 
 // Writes the products of the pairs from the tab at at on from word 0 of the scratch on, unless one names no stored polynomial or there are too many.
-pub fn sum_pairs<'a>(
-    indices: &'a Indices,
-    starts: &'a Column,
-    counts: &'a Column,
+pub fn sum_pairs(
+    indices: &Indices,
+    starts: &Column,
+    counts: &Column,
     n: usize,
     line: &[u8],
     at: usize,

@@ -1,4 +1,4 @@
--- Whether a goal is one of the stored polynomials, and runs in the rests of slices compared. Assumes nothing.
+-- Whether a goal is one of the stored polynomials, and comparing runs that begin inside a slice. Assumes nothing.
 use mathlib.Core.Path.{_≡_, refl, sym, ap, ap₂, subst, _∙_}
 use mathlib.Core.Bool.{Bool, true, false, _||_, or-assoc}
 use mathlib.Core.List.{List, [], _∷_, _++_}
@@ -16,7 +16,7 @@ use Rattle.table.specs.Table.{firsts, polyAt, entryAt, PackedColumns}
 use Rattle.table.proofs.Firsts.{behind, firsts-more, firsts-split}
 use Rattle.table.proofs.Packing.{ends-used}
 
--- a run in the rest of a slice
+-- ---- runs in the rest of a slice
 pub rest-equal : (m a : ℕ) (q : Poly) (s : List ℕ) → equal (decode m (part a (length s - a) s)) q ≡ equal (decode m (drop a s)) q
 rest-equal m a q s = ap (λ (w : List ℕ). equal (decode m w) q) (part-rest a s)
 
@@ -39,13 +39,13 @@ stored-words starts counts pool stored j p h = omega (arith, ends-used starts co
 pub record NoneIs (starts counts pool : List ℕ) (g : Poly) (j : ℕ) : Type 0 where
   pub under : (indices : List ℕ) → holdsGoal g (firsts (entryAt indices starts counts pool) j) ≡ false
 
-module _ (starts counts pool : List ℕ) (g : Poly) where
+module _ {starts counts pool : List ℕ} {g : Poly} where
   pub none-start : NoneIs starts counts pool g 0
   unfolding holdsGoal firsts any
   none-start = record { under = λ indices. refl }
 
   -- t tells whether the j-th is g
-  module _ (j : ℕ) (t : Bool) (e : t ≡ equal (polyAt starts counts pool j) g) (none : NoneIs starts counts pool g j) where
+  module _ {j : ℕ} {t : Bool} (e : t ≡ equal (polyAt starts counts pool j) g) (none : NoneIs starts counts pool g j) where
     pub none-more : t ≡ false → NoneIs starts counts pool g (j + 1)
     unfolding holdsGoal any
     none-more f = record { under = more }
@@ -61,5 +61,5 @@ module _ (starts counts pool : List ℕ) (g : Poly) where
         let at : ℕ → Entry = entryAt indices starts counts pool in
         sym (ap (holdsGoal g) (firsts-split at j stored h) ∙ holds-append g (firsts at j) (at j ∷ behind at j stored) ∙ rw (none .under indices, ← e, f))
 
-  pub none-end : (j stored : ℕ) → j ≡ stored → NoneIs starts counts pool g j → (indices : List ℕ) → false ≡ holdsGoal g (firsts (entryAt indices starts counts pool) stored)
-  none-end j stored e none indices = sym (subst (λ (n : ℕ). holdsGoal g (firsts (entryAt indices starts counts pool) n) ≡ false) e (none .under indices))
+  pub none-end : {j stored : ℕ} → j ≡ stored → NoneIs starts counts pool g j → (indices : List ℕ) → false ≡ holdsGoal g (firsts (entryAt indices starts counts pool) stored)
+  none-end e none indices = sym (subst (λ (n : ℕ). holdsGoal g (firsts (entryAt indices starts counts pool) n) ≡ false) e (none .under indices))

@@ -34,10 +34,10 @@ use Rattle.regions.specs.Regions.{statedAt, factorAt, ReducedAt, StatedI
 
 -- the region of s from a up to e was lent, and y came back with the terms q at its front
 module _ (a e n m : ℕ) (q : Poly) (s y : List ℕ) (h : a ≤ e) (l : e ≤ length s) (f : n * termWords ≤ e - a) (c : Leaves n q (part a (e - a) s) y m) where
-  pub lent-run : decode m (drop a (putMid a (e - a) s y)) ≡ q
+  lent-run : decode m (drop a (putMid a (e - a) s y)) ≡ q
   lent-run = sym (decode-part m a (e - a) (putMid a (e - a) s y) (omega (arith, c .few))) ∙ ap (decode m) (put-part s y a e h l (c .within .same)) ∙ c .terms
 
-  pub lent-within : Within a e s (putMid a (e - a) s y)
+  lent-within : Within a e s (putMid a (e - a) s y)
   lent-within = put-within s y a e h l (c .within .same)
 
 -- ---- a field

@@ -12,6 +12,7 @@ use Rattle.paper.specs.Statement.{Written, reduced}
 use Rattle.reader.specs.Places.{Got}
 use Rattle.fields.specs.declared.FieldRun.{FieldRun}
 
+-- the words at which the regions behind the products begin
 abbrev pub statedAt : ℕ
 statedAt = lineProducts * termWords
 

@@ -15,9 +15,10 @@ ghost use Rattle.regions.specs.Regions.{statedAt, goalAt, ReducedAt, Sta
 use fields::FieldRun;
 use table::Column;
 
-// The words of a region for one field, and where the regions begin.
-pub const REGION: usize = limits::FIELD_TERMS * limits::TERM_WORDS;
+// The words of a region for one field.
+const REGION: usize = limits::FIELD_TERMS * limits::TERM_WORDS;
 
+// The words at which the regions behind the products begin.
 pub const STATED: usize = limits::LINE_PRODUCTS * limits::TERM_WORDS;
 
 pub const FACTOR: usize = STATED + REGION;
@@ -40,6 +41,7 @@ pub fn read_reduced(line: &[u8], at: usize, scratch: &mut [u64], base: usize, k:
 }
 
 // Whether the n terms of a goal are one of the stored polynomials.
+// The columns share a lifetime: two fields of a local are lent at one and the same only.
 pub fn is_stored<'a>(
     starts: &'a Column,
     counts: &'a Column,

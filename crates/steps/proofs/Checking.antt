@@ -26,6 +26,7 @@ use Rattle.fields.specs.declared.FieldRun.{FieldRun}
 use Rattle.regions.specs.Regions.{statedAt, factorAt, goalAt, ReducedAt, StatedIs}
 use Rattle.pairs.specs.declared.Sum.{Sum}
 use Rattle.pairs.specs.Pairs.{PairsAt, productsOf, Summed}
+use Rattle.pairs.proofs.Adding.{kept-stated}
 use Rattle.steps.specs.declared.check.Checked.{Checked}
 use Rattle.steps.specs.Parts.{sums, extends}
 use Rattle.steps.specs.Checks.{Extends, Sums, AddsUp}
@@ -127,10 +128,10 @@ module _ {k : ℕ} {store : Store} {p : Poly} {qs : List Pair} {n : ℕ} (seen :
     counted-sum y = not-refused present (ltb lineProducts (productsOf k (find store) qs)) (cond (not y) MISMATCH 0) (sym o ∙ a .verdict)
 
     same-sum : b ≡ sum
-    same-sum = d ∙ ap₂ equal (a .stated n (omega arith) ∙ stated) (ap (reduce k) (a .run o) ∙ reduce-rounded k kk (combination k (find store) qs))
+    same-sum = d ∙ ap₂ equal (kept-stated s x (a .kept) n (omega arith) ∙ stated) (ap (reduce k) (a .run o) ∙ reduce-rounded k kk (combination k (find store) qs))
 
     kept : decode n (drop statedAt r) ≡ p
-    kept = decode-above n statedAt 0 statedAt x r w (omega arith) ∙ a .stated n (omega arith) ∙ stated
+    kept = decode-above n statedAt 0 statedAt x r w (omega arith) ∙ kept-stated s x (a .kept) n (omega arith) ∙ stated
 
     pub sums-differ : b ≡ false → {c : Checked} → c ≡ record { verdict = MISMATCH; terms = 0; products = 0; seen = seen } → Adding r c
     sums-differ z = halted r MISMATCH (λ e. omega (arith, e)) (ap (λ (y : Bool). cond (not y) MISMATCH 0) (sym z ∙ same-sum) ∙ counted-sum sum)

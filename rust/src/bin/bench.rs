@@ -3,15 +3,13 @@
 //! `bench` times the host call, the independent checker and a loop that only looks at each byte, in turns in one run.
 //! `bench names` and `bench text NAME` write the texts; `bench independent` and `bench floor` take one from standard
 //! input, for a tool that counts instructions.
+
+use lofashunge::host;
+use lofashunge::independent::{self, POOL, SCRATCH};
 use lofashunge::worst::{self, Measured};
-use lofashunge::{host, independent};
 use std::hint::black_box;
 use std::io::{Read, Write};
 use std::time::Instant;
-
-/// The rooms that the host call and the check program lend, in words.
-const POOL: usize = 8_000;
-const SCRATCH: usize = 6_560;
 
 /// Looks at each byte once.
 fn floor(text: &[u8]) -> u64 {

@@ -1,4 +1,5 @@
 //! Writes the cases for the program `check_cases` (`cases input`) or what it must print (`cases output`).
+
 use lofashunge::cases::{input, output};
 use std::io::Write;
 

@@ -1,7 +1,7 @@
 //! The command for people. The proved host call decides; here files are read and its answer is put into words.
 
 use lofashunge::host::{self, Verdict, TEXT_BYTES, VERDICTS};
-use std::ffi::OsString;
+use std::ffi::{OsStr, OsString};
 use std::fs::File;
 use std::io::{self, Read, Write};
 use std::process::ExitCode;
@@ -44,8 +44,8 @@ fn readable(line: &[u8]) -> String {
     shown
 }
 
-/// A file's name, in which a control character could make a line of its own.
-fn printable(name: &OsString) -> String {
+/// A file's name with its control characters escaped, so that none begins a line of its own.
+fn printable(name: &OsStr) -> String {
     let shown = |c: char| if c.is_control() { c.escape_default().to_string() } else { c.to_string() };
     name.to_string_lossy().chars().map(shown).collect()
 }
@@ -80,15 +80,15 @@ The verdicts:
 
 // ---- files
 
-/// The text of a file or of standard input, and of a text that is too long one byte more than is taken.
-fn read(name: &OsString) -> io::Result<Vec<u8>> {
+/// The text of a file or of standard input; of one that is too long, a byte more than the host call takes.
+fn read(name: &OsStr) -> io::Result<Vec<u8>> {
     let source: Box<dyn Read> = if name == "-" { Box::new(io::stdin()) } else { Box::new(File::open(name)?) };
     let mut text = Vec::new();
     source.take(TEXT_BYTES as u64 + 1).read_to_end(&mut text)?;
     Ok(text)
 }
 
-fn report(name: &OsString) -> Report {
+fn report(name: &OsStr) -> Report {
     let shown = printable(name);
     match read(name) {
         Err(why) => Report { words: format!("{shown}: cannot be read: {why}"), status: UNREADABLE },

@@ -1,4 +1,5 @@
 //! Writes a multiplier's proof text: `multiplier N K STYLE`, with STYLE one of onelin, cells, fine.
+
 use lofashunge::multiplier::{text, Style};
 use std::io::Write;
 

@@ -78,6 +78,7 @@ fn in_range(p: &Written) -> bool {
 }
 
 impl Statement {
+    /// The polynomials that it writes.
     pub fn fields(&self) -> Vec<&Written> {
         match self {
             Statement::In(_, p) | Statement::Goal(p) | Statement::Ext(_, _, p) => vec![p],
@@ -97,6 +98,7 @@ impl Statement {
         own && self.fields().into_iter().all(in_range)
     }
 
+    /// The index of an in, lin, ext or del line, else 0.
     pub fn index(&self) -> u64 {
         match self {
             Statement::In(i, _) | Statement::Lin(i, _, _) | Statement::Del(i) | Statement::Ext(i, _, _) => i.unwrap_or(0),

@@ -1,4 +1,5 @@
-//! Programs run on an input.
+//! Programs run on an input. Not every test uses all of them.
+#![allow(dead_code)]
 
 use std::io::Write;
 use std::path::PathBuf;
@@ -17,6 +18,11 @@ pub fn run(command: &mut Command, input: &[u8]) -> Output {
         scope.spawn(move || pipe.write_all(input).is_ok());
         child.wait_with_output().unwrap()
     })
+}
+
+/// What the command gives for some arguments and an input, at the root of the repository.
+pub fn run_lpac(arguments: &[&str], input: &[u8]) -> Output {
+    run(Command::new(env!("CARGO_BIN_EXE_lpac")).current_dir(at_root("")).args(arguments), input)
 }
 
 /// What the check program gives for an input.

@@ -3,7 +3,8 @@
 use native.Mathlib.Omega.{arith}
 use Rattle.words.specs.Words.{number}
 use Rattle.table.proofs.Laws.{found-at, found-nothing}
-use Rattle.pairs.proofs.Adding.{head-index, head-factor, pair-missing, pair-added, place-lies}
+use Rattle.pairs.proofs.Walking.{next-pair, index-good, factor-good}
+use Rattle.pairs.proofs.Adding.{pair-missing, pair-added, place-lies}
 use borrow.Author.Needs.{needs}
 use Rattle.pairs.proofs.add_pair.Statement.{statement}
 use Rattle.pairs.proofs.add_pair.Tie as tie
@@ -14,8 +15,7 @@ add-small-at c = search needs
 small-at-requires : tie.Need-small-at-requires
 small-at-requires c κs =
     let b = c .before .before .before in
-    let a = b .args in
-    head-index (a .indices .now) (a .starts .now) (a .counts .now) (a .pool .now) (a .n) (a .line .now) (a .at) (b .pre .0 .0) (b .pre .0 .1) (b .pre .1)
+    index-good (next-pair (b .pre .0 .1) (b .pre .1))
 
 find-requires : tie.Need-find-requires
 find-requires c κs = search needs
@@ -35,7 +35,7 @@ returns c =
     let t = f .before .small-at in
     let b = f .before .before .before .before .before in
     let a = b .args in
-    pair-missing (a .indices .now) (a .starts .now) (a .counts .now) (a .pool .now) (a .n) (a .line .now) (a .at) (b .pre .0 .0) (b .pre .0 .1) (b .pre .1) (t .result .value) (t .result .end) (t .ensures)
+    pair-missing (a .indices .now) (a .starts .now) (a .counts .now) (a .pool .now) (a .n) (b .pre .0 .1) (b .pre .1) (t .ensures)
     (found-nothing (c .before .before .enum-told .given .1) (f .find .ensures)) (a .k) (a .sum .terms) (number (a .sum .seen)) (a .scratch .now) (a .sum .seen) (c .refusal .ensures)
 
 add-read-reduced : tie.Need-add-read-reduced
@@ -46,8 +46,7 @@ read-reduced-requires c κs =
     let t = c .before .before .before .before .before .before .small-at in
     let b = c .before .before .before .before .before .before .before .before .before .before in
     let a = b .args in
-    let f = head-factor (a .indices .now) (a .starts .now) (a .counts .now) (a .pool .now) (a .n) (a .line .now) (a .at) (b .pre .0 .0) (b .pre .0 .1) (b .pre .1) (t .result .value) (t .result .end) (t .ensures) in
-    (f .1, omega (arith, b .pre .3), b .pre .4, b .pre .5)
+    (factor-good (next-pair (b .pre .0 .1) (b .pre .1)) (t .ensures), omega (arith, b .pre .3), b .pre .4, b .pre .5)
 
 add-products-requires : tie.Need-add-products-requires
 add-products-requires c κs =
@@ -69,9 +68,8 @@ returns-2 c =
     let t = o .before .small-at in
     let b = o .before .before .before .before .before in
     let a = b .args in
-    pair-added (a .indices .now) (a .starts .now) (a .counts .now) (a .pool .now) (a .n) (a .line .now) (a .at) (b .pre .0 .0) (b .pre .0 .1) (b .pre .1) (t .result .value) (t .result .end) (t .ensures)
-    _ (a .k) (a .sum .terms) (number (a .sum .seen)) (a .scratch .now) (f .last .1 .1 .0) (m .last .1 .1 .1 .1 .0) (f .result) (m .result) (b .pre .6)
-    (found-at (c .before .before .before .before .before .before .before .before .before .before .found .given .1) (o .find .ensures)) (f .ensures) (m .ensures)
+    pair-added (a .indices .now) (a .starts .now) (a .counts .now) (a .pool .now) (a .n) (b .pre .0 .1) (b .pre .1) (t .ensures)
+    (b .pre .6) (found-at (c .before .before .before .before .before .before .before .before .before .before .found .given .1) (o .find .ensures)) (f .ensures) (m .ensures)
 
 pub add-pair-spec : {M : Type 1} → statement M
 add-pair-spec =

@@ -19,7 +19,7 @@ abbrev μ-loop : tie.MeasureT-loop
 loop-holds : tie.Need-loop-holds Inv-loop μ-loop
 loop-holds c =
     let b = c .before in
-    all-start (b .args .indices .now) (b .args .n) (b .args .line .now) (b .args .at) (b .pre .1 .0) (b .pre .1 .1)
+    all-start (b .args .indices .now) (b .args .n) (b .pre .1 .1)
 
 add-small-at : tie.Need-add-small-at Inv-loop μ-loop
 add-small-at c = search needs
@@ -27,8 +27,7 @@ add-small-at c = search needs
 small-at-requires : tie.Need-small-at-requires Inv-loop μ-loop
 small-at-requires c κs =
     let l = c .before .loop in
-    let s = c .before .before .before .args .line .now in
-    index-good s (l .i) (l .inv .left) (next-pair s (l .i) (l .inv .left) (l .inv .reads) (c .loop-test .taken))
+    index-good (next-pair (l .inv .reads) (c .loop-test .taken))
 
 find-requires : tie.Need-find-requires Inv-loop μ-loop
 find-requires c κs = search needs
@@ -44,26 +43,22 @@ returns c =
     let f = c .before .before in
     let t = f .before in
     let l = t .before .before .loop in
-    let a = t .before .before .before .before .args in
-    all-missing (a .indices .now) (a .n) (a .line .now) (a .at) (l .i) (l .inv) (t .before .loop-test .taken) (t .small-at .result .value) (t .small-at .result .end)
-    (t .small-at .ensures) (found-nothing (c .enum-told2 .given .1) (f .find .ensures))
+    all-missing _ _ (l .inv) (t .before .loop-test .taken) (t .small-at .ensures) (found-nothing (c .enum-told2 .given .1) (f .find .ensures))
 
 add-skip-field : tie.Need-add-skip-field Inv-loop μ-loop
 add-skip-field c =
     let t = c .before .before .before .before in
     let l = t .before .before .loop in
-    let s = t .before .before .before .before .args .line .now in
-    let h = factor-inside s (l .i) (l .inv .left) (next-pair s (l .i) (l .inv .left) (l .inv .reads) (t .before .loop-test .taken)) (t .small-at .result .value) (t .small-at .result .end) (t .small-at .ensures) in
+    let h = factor-inside (next-pair (l .inv .reads) (t .before .loop-test .taken)) (t .small-at .ensures) in
     search needs
 
 skip-field-requires : tie.Need-skip-field-requires Inv-loop μ-loop
 skip-field-requires c κs =
     let t = c .before .before .before .before in
     let l = t .before .before .loop in
-    let s = t .before .before .before .before .args .line .now in
-    let n = next-pair s (l .i) (l .inv .left) (l .inv .reads) (t .before .loop-test .taken) in
-    let h = factor-inside s (l .i) (l .inv .left) n (t .small-at .result .value) (t .small-at .result .end) (t .small-at .ensures) in
-    (omega arith, factor-whole s (l .i) (l .inv .left) n (t .small-at .result .value) (t .small-at .result .end) (t .small-at .ensures))
+    let n = next-pair (l .inv .reads) (t .before .loop-test .taken) in
+    let h = factor-inside n (t .small-at .ensures) in
+    (omega arith, factor-whole n (t .small-at .ensures))
 
 loop-less : tie.Need-loop-less Inv-loop μ-loop
 loop-less c =
@@ -79,15 +74,12 @@ loop-again c =
     let f = c .before .before .before .before in
     let t = f .before in
     let l = t .before .before .loop in
-    let a = t .before .before .before .before .args in
-    all-more (a .indices .now) (a .n) (a .line .now) (a .at) (l .i) (l .inv) (t .before .loop-test .taken) (t .small-at .result .value) (t .small-at .result .end)
-    (t .small-at .ensures) _ (c .skip-field .result) (found-at (c .before .before .enum-told .given .1) (f .find .ensures)) (c .skip-field .ensures)
+    all-more _ _ (l .inv) (t .before .loop-test .taken) (t .small-at .ensures) (found-at (c .before .before .enum-told .given .1) (f .find .ensures)) (c .skip-field .ensures)
 
 returns-2 : tie.Need-returns-2 Inv-loop μ-loop
 returns-2 c =
     let l = c .before .loop in
-    let a = c .before .before .before .args in
-    all-end (a .indices .now) (a .n) (a .line .now) (a .at) (l .i) (l .inv) (c .loop-test .left)
+    all-end _ _ (l .inv) (c .loop-test .left)
 
 pub all-stored-spec : {M : Type 1} → statement M
 all-stored-spec =

@@ -7,7 +7,8 @@ use borrow.Author.Needs.{needs}
 use lib.ListN.{length, take}
 use lib.Seq.{length-take-le}
 use Rattle.regions.specs.Regions.{statedAt, factorAt}
-use Rattle.pairs.proofs.Multiplying.{row-more, row-fits, Rows, rows-start, rows-more}
+use Rattle.regions.proofs.Squares.{row-more, row-fits}
+use Rattle.pairs.proofs.Multiplying.{Rows, rows-start, rows-more}
 use Rattle.pairs.proofs.append_products.Statement.{statement}
 use Rattle.pairs.proofs.append_products.Tie as tie
 

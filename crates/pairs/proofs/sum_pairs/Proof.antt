@@ -23,7 +23,7 @@ loop-holds c =
     let b = c .before .before .before in
     let a = b .args in
     let s = firsts (entryAt (a .indices .now) (a .starts .now) (a .counts .now) (a .pool .now)) (a .n) in
-    (refl, done-start (a .k) s (a .line .now) (a .at) (number (a .seen)) (a .scratch .now) (b .pre .0 .0) (b .pre .0 .1))
+    (refl, done-start (a .k) s (number (a .seen)) (a .scratch .now) (b .pre .0 .1))
 
 add-pair-requires : tie.Need-add-pair-requires Inv-loop μ-loop
 add-pair-requires c κs =
@@ -37,9 +37,7 @@ stopped-requires c κs =
     let t = c .before .before .before .before .before .before in
     let l = t .before .loop in
     let b = t .before .before .before .before .before in
-    let a = b .args in
-    let s = firsts (entryAt (a .indices .now) (a .starts .now) (a .counts .now) (a .pool .now)) (a .n) in
-    (b .pre .1 .1 .few, done-rest (a .k) s (a .line .now) (a .at) (l .i) (number (a .seen)) (l .sum .terms) (number (l .sum .seen)) (a .scratch .now) (l .scratch) (l .inv .1) (t .loop-test .taken) (p .last .1 .1 .1 .1 .1 .1 .1 .0) (p .result) (p .ensures))
+    (b .pre .1 .1 .few, done-rest _ _ (l .inv .1) (t .loop-test .taken) (p .ensures))
 
 same-length : tie.Need-same-length Inv-loop μ-loop
 same-length c = kept-trans (c .before .before .before .before .before .before .before .before .loop .inv .1 .kept) (c .before .before .before .before .before .add-pair .ensures .kept) .same
@@ -49,10 +47,8 @@ returns c =
     let p = c .before .before .before .before .before .add-pair in
     let t = c .before .before .before .before .before .before .before in
     let l = t .before .loop in
-    let b = t .before .before .before .before .before in
-    let a = b .args in
-    let s = firsts (entryAt (a .indices .now) (a .starts .now) (a .counts .now) (a .pool .now)) (a .n) in
-    done-stop (a .k) s (a .line .now) (a .at) (l .i) (number (a .seen)) (l .sum .terms) (number (l .sum .seen)) (a .scratch .now) (l .scratch) (l .inv .1) (t .loop-test .taken) (p .last .1 .1 .1 .1 .1 .1 .1 .0) (p .result) (p .ensures)
+    let a = t .before .before .before .before .before .args in
+    done-stop _ _ (l .inv .1) (t .loop-test .taken) (p .ensures)
     (c .before .if1 .taken) (c .stopped .result) (λ qs w. c .stopped .ensures qs w (a .starts .now) (a .counts .now) (a .pool .now))
 
 loop-less : tie.Need-loop-less Inv-loop μ-loop
@@ -60,10 +56,7 @@ loop-less c =
     let p = c .before .before .before .before .before .add-pair in
     let t = c .before .before .before .before .before .before .before in
     let l = t .before .loop in
-    let b = t .before .before .before .before .before in
-    let a = b .args in
-    let s = firsts (entryAt (a .indices .now) (a .starts .now) (a .counts .now) (a .pool .now)) (a .n) in
-    let o = done-onward (a .k) s (a .line .now) (a .at) (l .i) (number (a .seen)) (l .sum .terms) (number (l .sum .seen)) (a .scratch .now) (l .scratch) (l .inv .1) (t .loop-test .taken) (p .last .1 .1 .1 .1 .1 .1 .1 .0) (p .result) (p .ensures) (c .before .if1 .left) in
+    let o = done-onward _ _ (l .inv .1) (t .loop-test .taken) (p .ensures) (c .before .if1 .left) in
     omega (arith, o .0, o .1)
 
 loop-again : tie.Need-loop-again Inv-loop μ-loop
@@ -71,10 +64,7 @@ loop-again c =
     let p = c .before .before .before .before .before .add-pair in
     let t = c .before .before .before .before .before .before .before in
     let l = t .before .loop in
-    let b = t .before .before .before .before .before in
-    let a = b .args in
-    let s = firsts (entryAt (a .indices .now) (a .starts .now) (a .counts .now) (a .pool .now)) (a .n) in
-    (c .before .if1 .left, done-more (a .k) s (a .line .now) (a .at) (l .i) (number (a .seen)) (l .sum .terms) (number (l .sum .seen)) (a .scratch .now) (l .scratch) (l .inv .1) (t .loop-test .taken) (p .last .1 .1 .1 .1 .1 .1 .1 .0) (p .result) (p .ensures) (c .before .if1 .left))
+    (c .before .if1 .left, done-more _ _ (l .inv .1) (t .loop-test .taken) (p .ensures) (c .before .if1 .left))
 
 same-length-2 : tie.Need-same-length-2 Inv-loop μ-loop
 same-length-2 c = c .before .loop .inv .1 .kept .same
@@ -82,9 +72,7 @@ same-length-2 c = c .before .loop .inv .1 .kept .same
 returns-2 : tie.Need-returns-2 Inv-loop μ-loop
 returns-2 c =
     let l = c .before .loop in
-    let a = c .before .before .before .before .before .args in
-    let s = firsts (entryAt (a .indices .now) (a .starts .now) (a .counts .now) (a .pool .now)) (a .n) in
-    done-last (a .k) s (a .line .now) (a .at) (l .i) (number (a .seen)) (l .sum .terms) (number (l .sum .seen)) (a .scratch .now) (l .scratch) (l .inv .1) (l .sum) (l .inv .0) refl refl (c .loop-test .left)
+    done-last _ _ (l .inv .1) (l .sum) (l .inv .0) refl refl (c .loop-test .left)
 
 pub sum-pairs-spec : {M : Type 1} → statement M
 sum-pairs-spec =

@@ -1,7 +1,8 @@
 -- `regions::is_bit` meets its contract: the square is reduced and compared with the run that it is the square of. No loop. Assumes nothing.
 use native.Mathlib.Omega.{arith}
 use borrow.Author.Needs.{needs}
-use Rattle.regions.proofs.Squares.{side, square-within, square-equal}
+use Rattle.words.proofs.Parts.{within-trans}
+use Rattle.regions.proofs.Squares.{side, square-equal}
 use Rattle.regions.proofs.is_bit.Statement.{statement}
 use Rattle.regions.proofs.is_bit.Tie as tie
 
@@ -26,8 +27,8 @@ returns c =
     let x = c .before .before .before .before .before .before in
     let b = x .before .before .before in
     let a = b .args in (
-      square-equal (a .k) (a .n) (a .scratch .now) (x .square .last .0) (r .last .0) (x .square .ensures) _ (b .pre .3) (r .ensures .0),
-      square-within (a .k) (a .n) (a .scratch .now) (x .square .last .0) (r .last .0) (x .square .ensures) (r .ensures .1),
+      square-equal (a .k) (a .n) (a .scratch .now) (x .square .last .0) (x .square .ensures) _ (b .pre .3) (r .ensures .0),
+      within-trans (x .square .ensures .within) (r .ensures .1),
     )
 
 pub is-bit-spec : {M : Type 1} → statement M

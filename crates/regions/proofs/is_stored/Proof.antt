@@ -29,9 +29,7 @@ inside c =
     stored-words (a .starts .now) (a .counts .now) (a .pool .now) (a .stored) (b .loop .j) (q .pre .0) (c .loop-test .taken)
 
 loop-holds : tie.Need-loop-holds Inv-loop μ-loop
-loop-holds c =
-    let a = c .before .before .args in
-    (omega arith, none-start (a .starts .now) (a .counts .now) (a .pool .now) (decode (a .n) (a .goal .now)))
+loop-holds c = (omega arith, none-start)
 
 mul-at : tie.Need-mul-at Inv-loop μ-loop
 mul-at c = search needs
@@ -80,8 +78,7 @@ returns c =
     let d = c .before in
     let b = d .before .before .before .before .before in
     let a = b .before .before .before .args in
-    one-is (a .starts .now) (a .counts .now) (a .pool .now) (decode (a .n) (a .goal .now)) (b .loop .j) (d .same-run .result)
-    (d .same-run .ensures ∙ rest-equal _ _ _ (a .pool .now)) (b .loop .inv .1) (a .stored) (omega arith) (c .if1 .taken)
+    one-is (d .same-run .ensures ∙ rest-equal _ _ _ (a .pool .now)) (b .loop .inv .1) (a .stored) (omega arith) (c .if1 .taken)
 
 add-j : tie.Need-add-j Inv-loop μ-loop
 add-j c = search needs
@@ -95,15 +92,11 @@ loop-again c =
     let b = d .before .before .before .before .before in
     let a = b .before .before .before .args in (
       omega arith,
-      none-more (a .starts .now) (a .counts .now) (a .pool .now) (decode (a .n) (a .goal .now)) (b .loop .j) (d .same-run .result)
-          (d .same-run .ensures ∙ rest-equal _ _ _ (a .pool .now)) (b .loop .inv .1) (c .if1 .left),
+      none-more (d .same-run .ensures ∙ rest-equal _ _ _ (a .pool .now)) (b .loop .inv .1) (c .if1 .left),
     )
 
 returns-2 : tie.Need-returns-2 Inv-loop μ-loop
-returns-2 c =
-    let b = c .before in
-    let a = b .before .before .before .args in
-    none-end (a .starts .now) (a .counts .now) (a .pool .now) (decode (a .n) (a .goal .now)) (b .loop .j) (a .stored) (omega arith) (b .loop .inv .1)
+returns-2 c = none-end (omega arith) (c .before .loop .inv .1)
 
 pub is-stored-spec : {M : Type 1} → statement M
 is-stored-spec =

@@ -1,9 +1,10 @@
 -- `regions::square` meets its contract. The loop's invariant: i rows of products are written; the measure is how many are left. Assumes nothing.
-use Prim.Native.Nat.{_+_, _-_, _*_, _≤_}
+use mathlib.Core.Path.{_≡_, subst}
+use Prim.Native.Nat.{ℕ, _+_, _-_, _*_, _≤_}
 use native.Mathlib.Omega.{arith}
 use borrow.Author.Needs.{needs}
 use Rattle.limits.specs.Limits.{lineProducts}
-use Rattle.regions.proofs.Squares.{side, row-fits, Rows, rows-start, rows-more, rows-end}
+use Rattle.regions.proofs.Squares.{side, row-fits, Rows, rows-start, rows-more}
 use Rattle.regions.proofs.square.Statement.{statement}
 use Rattle.regions.proofs.square.Tie as tie
 
@@ -19,7 +20,7 @@ few c = let q = c .before .before .before in side (q .args .n) (q .pre .0)
 
 -- the products of a turn fit
 fits : (c : tie.In-loop Inv-loop μ-loop) → let b = c .before in let n = b .before .before .args .n in b .loop .i * n + n ≤ lineProducts
-fits c = let b = c .before in let q = b .before .before in row-fits (b .loop .i) (q .args .n) (c .loop-test .taken) (q .pre .0)
+fits c = let b = c .before in let q = b .before .before in omega (arith, row-fits (b .loop .i) (q .args .n) (q .args .n) (c .loop-test .taken), q .pre .0)
 
 loop-holds : tie.Need-loop-holds Inv-loop μ-loop
 loop-holds c = let a = c .before .args in (omega arith, rows-start (a .n) (a .scratch .now))
@@ -66,7 +67,8 @@ returns : tie.Need-returns Inv-loop μ-loop
 returns c =
     let b = c .before in
     let a = b .before .before .args in
-    rows-end (a .n) (b .loop .i) (a .scratch .now) (b .loop .scratch) (omega arith) (b .loop .inv .1)
+    let e : b .loop .i ≡ a .n = omega arith in
+    subst (λ (i : ℕ). Rows (a .n) i (a .scratch .now) (b .loop .scratch)) e (b .loop .inv .1)
 
 pub square-spec : {M : Type 1} → statement M
 square-spec =

@@ -27,7 +27,7 @@ returns c =
     let d = c .before .before .before .before .before .before .before .before .before .read-reduced .ensures in
     let s = c .before .before .before .before .before .sum-pairs in
     let q = b .pre .1 _ _ (d .taken) in
-    adds d (λ qs p. sums-refused (b .args .seen) (d .few) (s .ensures qs p) (d .run) (c .before .if1 .taken) (c .refusal .ensures)) (s .ensures (q .0) (q .1) .goal) (s .ensures (q .0) (q .1) .same)
+    adds d (λ qs p. sums-refused (b .args .seen) (d .few) (s .ensures qs p) (d .run) (c .before .if1 .taken) (c .refusal .ensures)) (s .ensures (q .0) (q .1) .kept .goal) (s .ensures (q .0) (q .1) .kept .same)
 
 is-reduced-requires : tie.Need-is-reduced-requires
 is-reduced-requires c κs =
@@ -36,7 +36,7 @@ is-reduced-requires c κs =
     let q = b .pre .1 _ _ (d .taken) in
     let s = c .before .before .before .before .before .sum-pairs .ensures (q .0) (q .1) in
     let m = s .most (c .before .if1 .left) in
-    (m, omega (arith, m), omega (arith, s .same, d .within .same, b .pre .3, d .few), b .pre .4, b .pre .5)
+    (m, omega (arith, m), omega (arith, s .kept .same, d .within .same, b .pre .3, d .few), b .pre .4, b .pre .5)
 
 refusal-requires-2 : tie.Need-refusal-requires-2
 refusal-requires-2 c κs = search needs
@@ -53,14 +53,14 @@ returns-2 c =
     let q = b .pre .1 _ _ (d .taken) in
     let u = s .ensures (q .0) (q .1) in
     adds-behind d (λ qs p. sums-differ (b .args .seen) (d .few) (s .ensures qs p) (d .run) (c .before .before .before .before .before .before .if1 .left) (b .pre .5) (r .ensures .1) (r .ensures .0) (not-true (r .result) (c .before .if2 .taken)) (c .refusal2 .ensures))
-    (r .ensures .1) (u .goal) (u .same)
+    (r .ensures .1) (u .kept .goal) (u .kept .same)
 
 seen-with-requires : tie.Need-seen-with-requires
 seen-with-requires c κs =
     let b = c .before .before .before .before .before .before .before .before .before .before .before .before .before .before .before .before .before .before .before .before in
     let d = c .before .before .before .before .before .before .before .before .before .before .before .before .before .before .before .read-reduced .ensures in
     let q = b .pre .1 _ _ (d .taken) in
-    omega (arith, d .few, d .within .same, c .before .before .before .before .before .before .before .before .before .before .before .sum-pairs .ensures (q .0) (q .1) .same, c .before .before .before .before .before .is-reduced .ensures .1 .same, b .pre .3)
+    omega (arith, d .few, d .within .same, c .before .before .before .before .before .before .before .before .before .before .before .sum-pairs .ensures (q .0) (q .1) .kept .same, c .before .before .before .before .before .is-reduced .ensures .1 .same, b .pre .3)
 
 same-length-3 : tie.Need-same-length-3
 same-length-3 c = search needs
@@ -74,7 +74,7 @@ returns-3 c =
     let q = b .pre .1 _ _ (d .taken) in
     let u = s .ensures (q .0) (q .1) in
     adds-behind d (λ qs p. sums-all (b .args .seen) (d .few) (s .ensures qs p) (d .run) (c .before .before .before .before .before .before .before .before .if1 .left) (b .pre .5) (r .ensures .1) (r .ensures .0) (not-false (r .result) (c .before .before .before .if2 .left)) (c .seen-with .ensures))
-    (r .ensures .1) (u .goal) (u .same)
+    (r .ensures .1) (u .kept .goal) (u .kept .same)
 
 pub add-up-spec : {M : Type 1} → statement M
 add-up-spec =
