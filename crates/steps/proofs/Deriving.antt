@@ -1,6 +1,6 @@
 -- What is found of a lin line and of an ext line. Assumes nothing.
 use mathlib.Core.Path.{_≡_, sym, ap, ap₂, _∙_}
-use mathlib.Core.Bool.{Bool, _||_, not}
+use mathlib.Core.Bool.{_||_, not}
 use mathlib.Core.List.{List, _++_, map}
 use Prim.Native.Nat.{ℕ, _+_, _*_, _^_}
 use native.Mathlib.Omega.{arith}
@@ -15,7 +15,7 @@ use Rattle.algebra.specs.Polynomial.{has, Poly, vars, equal, reduce, product, e
 use Rattle.algebra.proofs.Unions.{or-assoc}
 use Rattle.words.specs.Words.{number}
 use Rattle.terms.specs.Terms.{decode}
-use Rattle.paper.specs.Rules.{first, modulo, steps, stored, find, rules, combination}
+use Rattle.paper.specs.Rules.{modulo, steps, stored, find, combination}
 use Rattle.paper.specs.Grammar.{Bytes, decimal}
 use Rattle.paper.specs.Statement.{Written, Pair, lin, ext, reduced}
 use Rattle.reader.specs.Places.{Got}

@@ -2,17 +2,15 @@
 use mathlib.Core.Path.{_≡_, refl, sym, ap, subst, _∙_}
 use mathlib.Core.Bool.{Bool, true, false, not, cond}
 use mathlib.Core.List.{List, [], _∷_}
-use Prim.Native.Nat.{ℕ, _+_, _≤_, _<_}
+use Prim.Native.Nat.{ℕ, _<_}
 use native.Mathlib.Omega.{arith}
 use lib.Dec.{eqb}
-use lib.ListN.{length, drop}
+use lib.ListN.{length}
 use borrow.Author.Tests.{eq-eqb, ne-eqb}
-use Rattle.limits.specs.Limits.{greatestRing, lineProducts}
 use Rattle.limits.specs.Verdicts.{ORDER, MISSING}
-use Rattle.algebra.specs.Polynomial.{Poly}
 use Rattle.words.specs.Words.{number}
 use Rattle.terms.specs.Terms.{decode}
-use Rattle.paper.specs.Rules.{first, Store, modulo, opening, inputs, steps, bits, stored, remove, start, rules, after}
+use Rattle.paper.specs.Rules.{first, Store, modulo, opening, inputs, steps, stored, remove, start, rules}
 use Rattle.paper.specs.Grammar.{Bytes}
 use Rattle.paper.specs.Statement.{Statement, ring, del}
 use Rattle.paper.specs.Rules as paper
@@ -24,10 +22,9 @@ use Rattle.table.specs.Steps as table
 use Rattle.table.specs.Steps.{FirstAt}
 use Rattle.table.proofs.Laws.{found-stored, fresh-fitting}
 use Rattle.table.proofs.Forgetting.{Forgotten, forgotten-fitting}
-use Rattle.regions.specs.Regions.{goalAt}
 use Rattle.steps.specs.declared.state.State.{State}
 use Rattle.steps.specs.declared.state.Step.{Step}
-use Rattle.steps.specs.State.{stateOf, Ready, Fresh}
+use Rattle.steps.specs.State.{stateOf, Fresh}
 use Rattle.steps.specs.Steps.{Room, Stepped, Does}
 use Rattle.steps.proofs.Said.{Said, ring-range}
 use Rattle.steps.proofs.Rows.{first-ring, first-del}
