@@ -23,7 +23,7 @@ use Rattle.fields.specs.Fields.{Good, isField, FieldAt}
 use Rattle.fields.specs.declared.FieldRun.{FieldRun}
 use Rattle.fields.proofs.Taking.{same-value}
 use Rattle.fields.proofs.Meaning.{worded-reduced}
-use Rattle.speller.specs.Writing.{written, Wrote, Cut}
+use Rattle.writer.specs.Writing.{written, Wrote, Cut}
 use Rattle.speller.specs.Spells.{Gives, Spells, fitted, Accepts, Holds}
 use Rattle.speller.specs.declared.Spelled.{Spelled as Answer}
 use Rattle.speller.proofs.Judging.{ring-most, field-range, field-few, accepted-fitted, not-short}

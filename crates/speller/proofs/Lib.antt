@@ -1,8 +1,3 @@
-pub mod Written
-pub mod Digits
-pub mod Pieces
-pub mod Signs
-pub mod Runs
 pub mod Judging
 pub mod Giving
 pub mod Decided

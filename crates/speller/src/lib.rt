@@ -1,15 +1,11 @@
 // The spelling writer: a polynomial field in its one fixed spelling.
-mod measure;
-mod sign;
-mod write;
-
 ghost use mathlib.Core.Path.{_≡_};
 ghost use Prim.Native.Nat.{_*_, _≤_};
 ghost use lib.ListN.{length};
 ghost use Rattle.limits.specs.Limits.{fieldTerms, termWords, leastSpellingScratch};
 ghost use Rattle.terms.specs.Terms.{decode};
 ghost use Rattle.paper.specs.Spelling.{spell, spellRead, wholeField};
-ghost use Rattle.speller.specs.Writing.{Cut};
+ghost use Rattle.writer.specs.Writing.{Cut};
 ghost use Rattle.speller.specs.Spells.{Gives, Spells, fitted, Accepts, Judged, Holds};
 use reader::field::FieldScan;
 use reader::field::scan_field;
@@ -70,12 +66,12 @@ fn write_fitting(s: &[u64], n: usize, k: u32, out: &mut [u8]) -> Spelled
     requires { ⌜ (1 ≤ k) × (k ≤ 64) × (n ≤ fieldTerms) × (n * termWords ≤ length (now s)) × Cut k (decode n (now s)) ⌝ }
     ensures { λ r. ⌜ Gives (fitted (spell k (decode n (now (s .entry)))) (length (now (out .entry)))) (now (out .entry)) (now (out .exit)) r ⌝ }
 {
-    if !measure::run_fits(s, n, k, out.len()) {
+    if !writer::measure::run_fits(s, n, k, out.len()) {
         return refused(limits::FULL);
     }
     Spelled {
         verdict: limits::ACCEPTED,
-        written: write::write_run(out, s, n, k),
+        written: writer::write::write_run(out, s, n, k),
     }
 }
 

@@ -1,0 +1,41 @@
+-- `writer::measure::coefficient_length` meets its contract: the digits of the magnitude, and a byte for a sign. No loop.
+-- Assumes nothing.
+use mathlib.Core.Path.{ap}
+use native.Mathlib.Omega.{arith}
+use borrow.Author.Needs.{needs}
+use lib.ListN.{length}
+use Rattle.paper.specs.Spelling.{spellCoefficient}
+use Rattle.writer.proofs.Signs.{signed-minus, signed-plus}
+use Rattle.writer.proofs.Digits.{word-digits}
+use Rattle.writer.proofs.measure.coefficient_length.Statement.{statement}
+use Rattle.writer.proofs.measure.coefficient_length.Tie as tie
+
+with-sign-requires : tie.Need-with-sign-requires
+with-sign-requires c κs = search needs
+
+number-length-requires : tie.Need-number-length-requires
+number-length-requires c κs = search needs
+
+add-result : tie.Need-add-result
+add-result c =
+    let n = c .before .number-length in
+    let s = c .before .before .with-sign in
+    record { fits = omega (arith, n .ensures, word-digits (s .result .magnitude) (search needs)) }
+
+returns : tie.Need-returns
+returns c =
+    let n = c .before .number-length in
+    let s = c .before .before .with-sign in
+    let a = c .before .before .before .args in
+    omega (arith, n .ensures, ap length (signed-minus (s .result) (spellCoefficient (a .k) (a .c)) (s .ensures) (c .if1 .taken)))
+
+returns-2 : tie.Need-returns-2
+returns-2 c =
+    let n = c .before .number-length in
+    let s = c .before .before .with-sign in
+    let a = c .before .before .before .args in
+    omega (arith, n .ensures, ap length (signed-plus (s .result) (spellCoefficient (a .k) (a .c)) (s .ensures) (c .if1 .left)))
+
+pub coefficient-length-spec : {M : Type 1} → statement M
+coefficient-length-spec =
+    tie.close (tie.spec with-sign-requires number-length-requires add-result returns returns-2)

@@ -1,0 +1,57 @@
+-- `writer::measure::number_length` meets its contract. The loop's invariant: limit is 10 ^ digits, and n has as many digits at least.
+-- The measure is how many digits a word can have beyond these. Assumes nothing.
+use Prim.Native.Nat.{_-_}
+use native.Mathlib.Omega.{arith}
+use borrow.Author.Needs.{needs}
+use Rattle.writer.proofs.Digits.{Counting, counting-start, counting-last, counting-fits, counting-more, counting-end}
+use Rattle.writer.proofs.measure.number_length.Statement.{statement}
+use Rattle.writer.proofs.measure.number_length.Tie as tie
+
+abbrev Inv-loop : tie.InvT-loop
+Inv-loop n digits₀ limit₀ digits limit = Counting n digits limit
+
+abbrev μ-loop : tie.MeasureT-loop
+μ-loop n digits₀ limit₀ digits limit = 20 - digits
+
+loop-holds : tie.Need-loop-holds Inv-loop μ-loop
+loop-holds c = counting-start (c .args .n)
+
+add-digits : tie.Need-add-digits Inv-loop μ-loop
+add-digits c = search needs
+
+returns : tie.Need-returns Inv-loop μ-loop
+returns c =
+    let l = c .before .before .loop in
+    counting-last (c .before .before .before .args .n) (l .digits) (l .limit) (l .inv) (search needs) (omega arith) (omega arith)
+
+mul-limit : tie.Need-mul-limit Inv-loop μ-loop
+mul-limit c =
+    let l = c .before .before .loop in
+    record { fits = counting-fits (c .before .before .before .args .n) (l .digits) (l .limit) (l .inv) (omega arith) }
+
+loop-less : tie.Need-loop-less Inv-loop μ-loop
+loop-less c = search needs
+
+loop-again : tie.Need-loop-again Inv-loop μ-loop
+loop-again c =
+    let l = c .before .before .loop in
+    counting-more (c .before .before .before .args .n) (l .digits) (l .limit) (l .inv) (omega arith) (omega arith)
+
+returns-2 : tie.Need-returns-2 Inv-loop μ-loop
+returns-2 c =
+    let l = c .before .loop in
+    counting-end (c .before .before .args .n) (l .digits) (l .limit) (l .inv) (omega arith)
+
+pub number-length-spec : {M : Type 1} → statement M
+number-length-spec =
+    tie.close
+    (tie.spec
+    Inv-loop
+    μ-loop
+    loop-holds
+    add-digits
+    returns
+    mul-limit
+    loop-less
+    loop-again
+    returns-2)

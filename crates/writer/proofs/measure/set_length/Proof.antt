@@ -1,0 +1,77 @@
+-- `writer::measure::set_length` meets its contract. The loop's invariant: the sum and the variables of the words from i on make up those of the set.
+-- The measure is the number of words left. Assumes nothing.
+use mathlib.Core.Path.{_≡_, ap}
+use Prim.Native.Nat.{_+_, _-_, _≤_}
+use native.Mathlib.Omega.{arith}
+use borrow.Author.Needs.{needs}
+use lib.ListN.{length}
+use Rattle.limits.specs.Limits.{setWords, variables}
+use Rattle.ground.specs.Lists.{gather}
+use Rattle.algebra.specs.Polynomial.{members}
+use Rattle.words.specs.Words.{number}
+use Rattle.writer.specs.Writing.{dotted}
+use Rattle.writer.proofs.Pieces.{setRest, set-start, set-length-more, set-end, set-most}
+use Rattle.writer.proofs.measure.set_length.Statement.{statement}
+use Rattle.writer.proofs.measure.set_length.Tie as tie
+
+abbrev Inv-loop : tie.InvT-loop
+Inv-loop a sum₀ i₀ sum i = (i ≤ setWords) × (sum + length (setRest a i) ≡ length (gather dotted (members variables 0 (number a))))
+
+abbrev μ-loop : tie.MeasureT-loop
+μ-loop a sum₀ i₀ sum i = setWords - i
+
+loop-holds : tie.Need-loop-holds Inv-loop μ-loop
+loop-holds c = let a = c .args .t1 in (omega arith, omega (arith, ap length (set-start a (search needs))))
+
+mul-word-length : tie.Need-mul-word-length Inv-loop μ-loop
+mul-word-length c = search needs
+
+array-read-word-length : tie.Need-array-read-word-length Inv-loop μ-loop
+array-read-word-length c = search needs
+
+mul-word-length-2 : tie.Need-mul-word-length-2 Inv-loop μ-loop
+mul-word-length-2 c = search needs
+
+word-length-requires : tie.Need-word-length-requires Inv-loop μ-loop
+word-length-requires c κs = search needs
+
+add-sum : tie.Need-add-sum Inv-loop μ-loop
+add-sum c =
+    let a = c .before .before .before .args .t1 in
+    let l = c .before .before .loop in
+    record { fits = omega (arith, c .word-length .ensures, set-length-more a (l .i) (λ i. search needs) (search needs), set-most (number a)) }
+
+add-i : tie.Need-add-i Inv-loop μ-loop
+add-i c = search needs
+
+loop-less : tie.Need-loop-less Inv-loop μ-loop
+loop-less c = search needs
+
+loop-again : tie.Need-loop-again Inv-loop μ-loop
+loop-again c =
+    let a = c .before .before .before .args .t1 in
+    let l = c .before .before .loop in
+    (omega arith, omega (arith, c .word-length .ensures, set-length-more a (l .i) (λ i. search needs) (search needs)))
+
+returns : tie.Need-returns Inv-loop μ-loop
+returns c =
+    let a = c .before .before .args .t1 in
+    let l = c .before .loop in
+    omega (arith, ap length (set-end a (l .i) (search needs)))
+
+pub set-length-spec : {M : Type 1} → statement M
+set-length-spec =
+    tie.close
+    (tie.spec
+    Inv-loop
+    μ-loop
+    loop-holds
+    mul-word-length
+    array-read-word-length
+    mul-word-length-2
+    word-length-requires
+    add-sum
+    add-i
+    loop-less
+    loop-again
+    returns)
