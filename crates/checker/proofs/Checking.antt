@@ -1,12 +1,12 @@
 -- A checked text: no run ends with SHORT or LONGTEXT, so all that was read leaves its rooms zero. Assumes nothing.
 use mathlib.Core.Path.{_≡_, refl, sym, ap, _∙_}
-use mathlib.Core.Bool.{Bool, true, false, _||_, not}
+use mathlib.Core.Bool.{Bool, true, _||_, not}
 use mathlib.Core.List.{List, [], _∷_}
 use Prim.Native.Nat.{ℕ, suc, _/_, _*_, _≤_, _<_}
 use native.Mathlib.Omega.{arith}
 use lib.Dec.{eqb, ltb}
 use lib.ListN.{length, replicate}
-use borrow.Author.Tests.{lt-ltb, le-ltb}
+use borrow.Author.Tests.{lt-ltb, le-ltb, not-true}
 use Rattle.ground.specs.Lists.{every}
 use Rattle.ground.proofs.Tests.{and-left, and-right, by-cond}
 use Rattle.limits.specs.Limits.{textBytes, lineBytes, leastPool, leastScratch, mostPoolTerms, termWords}
@@ -72,20 +72,16 @@ room-kept : (v : ℕ) (room : List ℕ) → early v ≡ true → room ≡ roomAf
 unfolding roomAfter
 room-kept v room e = rw e refl
 
-not-early : (b : Bool) → not b ≡ true → b ≡ false
-not-early false e = refl
-not-early true e = absurd (let z : _≡_ {A = ℕ} 0 1 = cc in omega arith)
-
 room-zeroed : (v : ℕ) (room : List ℕ) → late v ≡ true → replicate (length room) 0 ≡ roomAfter v room
 unfolding roomAfter
-room-zeroed v room e = rw (not-early (early v) e) refl
+room-zeroed v room e = rw (not-true (early v) e) refl
 
 -- ---- the terms that a pool holds
-pub capacity-most : (n : ℕ) → 65536 < n / 5 → 65536 ≡ capacityOf n
+pub capacity-most : (n : ℕ) → mostPoolTerms < n / termWords → mostPoolTerms ≡ capacityOf n
 unfolding capacityOf
 capacity-most n h = omega arith
 
-pub capacity-all : (n : ℕ) → n / 5 ≤ 65536 → n / 5 ≡ capacityOf n
+pub capacity-all : (n : ℕ) → n / termWords ≤ mostPoolTerms → n / termWords ≡ capacityOf n
 unfolding capacityOf
 capacity-all n h = omega arith
 
@@ -110,18 +106,18 @@ module _ {text : Bytes} {pool scratch : List ℕ} {a : Answer} where
       let w : early (a .verdict) ≡ true = ap (λ (x : answers.Answer). early (x .verdict)) q ∙ h in
       record { answer = q ∙ sym e; pool-after = room-kept (a .verdict) pool w; scratch-after = room-kept (a .verdict) scratch w }
 
-  pub checked-pool : length pool < leastPool → answerOf a ≡ unread 1 → Checked text pool scratch a pool scratch
+  pub checked-pool : length pool < leastPool → answerOf a ≡ unread SHORT → Checked text pool scratch a pool scratch
   unfolding answer
-  checked-pool h = unread-kept 1 refl (rw (lt-ltb (length pool) leastPool h) refl)
+  checked-pool h = unread-kept SHORT refl (rw (lt-ltb (length pool) leastPool h) refl)
 
-  pub checked-scratch : leastPool ≤ length pool → length scratch < leastScratch → answerOf a ≡ unread 1 → Checked text pool scratch a pool scratch
+  pub checked-scratch : leastPool ≤ length pool → length scratch < leastScratch → answerOf a ≡ unread SHORT → Checked text pool scratch a pool scratch
   unfolding answer
-  checked-scratch g h = unread-kept 1 refl (rw (le-ltb (length pool) leastPool g, lt-ltb (length scratch) leastScratch h) refl)
+  checked-scratch g h = unread-kept SHORT refl (rw (le-ltb (length pool) leastPool g, lt-ltb (length scratch) leastScratch h) refl)
 
   module _ (g : leastPool ≤ length pool) (h : leastScratch ≤ length scratch) where
-    pub checked-text : textBytes < length text → answerOf a ≡ unread 2 → Checked text pool scratch a pool scratch
+    pub checked-text : textBytes < length text → answerOf a ≡ unread LONGTEXT → Checked text pool scratch a pool scratch
     unfolding answer
-    checked-text l = unread-kept 2 refl (rw (le-ltb (length pool) leastPool g, le-ltb (length scratch) leastScratch h, lt-ltb textBytes (length text) l) refl)
+    checked-text l = unread-kept LONGTEXT refl (rw (le-ltb (length pool) leastPool g, le-ltb (length scratch) leastScratch h, lt-ltb textBytes (length text) l) refl)
 
     pub checked-run : length text ≤ textBytes → {capacity : ℕ} {p q p′ q′ : List ℕ} → capacity ≡ capacityOf (length pool) → Ran capacity text pool scratch a p q
         → p′ ≡ replicate (length p) 0 → q′ ≡ replicate (length q) 0 → Checked text pool scratch a p′ q′

@@ -3,14 +3,14 @@ use mathlib.Core.Path.{_≡_, refl, sym, ap, subst, _∙_}
 use mathlib.Core.Bool.{Bool, true, false, _&&_, cond}
 use mathlib.Core.Logic.{_⊎_, inl, inr}
 use mathlib.Core.List.{List, []}
-use Prim.Native.Nat.{ℕ, _+_, _≤_}
+use Prim.Native.Nat.{ℕ, _+_, _^_, _≤_}
 use native.Mathlib.Omega.{arith}
 use lib.Dec.{eqb, leb, ltb}
 use lib.ListN.{length, drop}
 use borrow.Author.Tests.{leb-true, le-leb, lt-ltb}
 use Rattle.ground.proofs.Tests.{split, and-left, and-right, by-cond}
-use Rattle.limits.specs.Limits.{lineBytes}
-use Rattle.limits.specs.Verdicts.{FORM, TERMS}
+use Rattle.limits.specs.Limits.{greatestIndex, lineBytes}
+use Rattle.limits.specs.Verdicts.{FORM, NUMBER, TERMS}
 use Rattle.paper.specs.Rules.{first, rules}
 use Rattle.paper.specs.Grammar.{Bytes, Line, Read, got, stuck, decimal, statement}
 use Rattle.paper.specs.Statement.{Statement, ring, input, goal, lin, del, ext, isIndex, isVariable, inRange, numbersInRange}
@@ -33,7 +33,7 @@ use Rattle.checker.proofs.Judging.{ended-got}
 -- ---- where an index stands
 index-word : (i : ℕ) → isIndex i ≡ true → isWord i ≡ true
 unfolding isIndex isWord
-index-word i e = let l : i ≤ 4294967295 = leb-true i 4294967295 (and-right (leb 1 i) (leb i 4294967295) e) in lt-ltb i 18446744073709551616 (omega arith)
+index-word i e = let l : i ≤ greatestIndex = leb-true i greatestIndex (and-right (leb 1 i) (leb i greatestIndex) e) in lt-ltb i (2 ^ 64) (omega arith)
 
 -- the index i, in range, is read at m
 pub record IndexAt (line : Bytes) (m i : ℕ) : Type 0 where
@@ -97,7 +97,7 @@ abbrev InRange : Statement → Outcome → Type 0
 InRange st (stands s) = Unit {0}
 InRange st (refused v i) = TERMS ≤ v → numbersInRange st ≡ true
 
-unranged : (capacity : ℕ) (s : paper.State) (st : Statement) → numbersInRange st ≡ false → first (rules capacity s st) ≡ 5
+unranged : (capacity : ℕ) (s : paper.State) (st : Statement) → numbersInRange st ≡ false → first (rules capacity s st) ≡ NUMBER
 unfolding first rules
 unranged capacity s st e = rw e
 

@@ -8,7 +8,7 @@ use lib.ListN.{length}
 use borrow.Author.Tests.{ne-eqb, lt-leb}
 use Rattle.ground.specs.Lists.{any}
 use Rattle.limits.specs.Limits.{lineBytes}
-use Rattle.limits.specs.Verdicts.{NUMBER, TERMS, ACCEPTED}
+use Rattle.limits.specs.Verdicts.{ACCEPTED, LONGLINE, FORM, NUMBER, TERMS}
 use Rattle.paper.specs.Rules.{first, rules}
 use Rattle.paper.specs.Grammar.{Bytes, Line, Read, got, stuck, next, kinds, oneOf, statement}
 use Rattle.paper.specs.Statement.{Statement, fields, numbersInRange, tooManyTerms}
@@ -95,15 +95,15 @@ module _ {capacity : ℕ} {l : Line} {s : State} {pool scratch : List ℕ} {r : 
         scratch-length = refl;
       }
 
-  pub judged-long : lineBytes < length (l .content) → (r .verdict ≡ 3) × (r .state ≡ s) → LineJudged capacity l s pool scratch r pool scratch
+  pub judged-long : lineBytes < length (l .content) → (r .verdict ≡ LONGLINE) × (r .state ≡ s) → LineJudged capacity l s pool scratch r pool scratch
   judged-long m h =
-      turned 3 (λ z. omega arith)
-      (line-long capacity (stateOf s pool scratch) l m ∙ ap (λ (i : ℕ). refused 3 i) (sym (no-index 3 (statement l) (omega arith)))) h
+      turned LONGLINE (λ z. omega arith)
+      (line-long capacity (stateOf s pool scratch) l m ∙ ap (λ (i : ℕ). refused LONGLINE i) (sym (no-index LONGLINE (statement l) (omega arith)))) h
 
-  pub judged-stuck : length (l .content) ≤ lineBytes → (t : Bytes) → statement l ≡ stuck t → (r .verdict ≡ 4) × (r .state ≡ s) → LineJudged capacity l s pool scratch r pool scratch
+  pub judged-stuck : length (l .content) ≤ lineBytes → (t : Bytes) → statement l ≡ stuck t → (r .verdict ≡ FORM) × (r .state ≡ s) → LineJudged capacity l s pool scratch r pool scratch
   judged-stuck m t e h =
-      turned 4 (λ z. omega arith)
-      (line-stuck capacity (stateOf s pool scratch) l t m e ∙ ap (λ (i : ℕ). refused 4 i) (sym (no-index 4 (statement l) (omega arith)))) h
+      turned FORM (λ z. omega arith)
+      (line-stuck capacity (stateOf s pool scratch) l t m e ∙ ap (λ (i : ℕ). refused FORM i) (sym (no-index FORM (statement l) (omega arith)))) h
 
 module _ {line : Bytes} {ended : Bool} (m : length line ≤ lineBytes) {k : Kind} {v : ℕ} (h : Stands line ended k v) where
   read-refused : (capacity : ℕ) (s : paper.State) (w : ℕ) → (w ≡ 0 → ⊥) → first (rules capacity s (h .value)) ≡ w

@@ -9,10 +9,11 @@ use lib.Dec.{ltb}
 use lib.ListN.{length, drop, drop-of-length-le}
 use borrow.Author.Tests.{eq-eqb, ne-eqb, ltb-true, ltb-false}
 use Rattle.limits.specs.Limits.{textBytes, mostPoolTerms, termWords, leastScratch}
+use Rattle.limits.specs.Verdicts.{ACCEPTED, NOGOAL, NOTREACHED}
 use Rattle.words.specs.Parts.{part}
 use Rattle.paper.specs.Grammar.{Bytes, Line, lines, statement}
 use Rattle.paper.specs.Rules as paper
-use Rattle.paper.specs.Rules.{start}
+use Rattle.paper.specs.Rules.{steps, start}
 use Rattle.paper.specs.Answer as answers
 use Rattle.paper.proofs.Running.{run-stands, run-refused}
 use Rattle.reader.specs.Search.{LineEnd}
@@ -34,17 +35,17 @@ unfolding answers.report
 reports s p v n i pool scratch = counts (sym (store-length (s .table) pool)) (sym (store-terms (s .table) pool p))
 
 module _ {a : answers.Answer} (s : paper.State) (n : ℕ) where
-  pub ends-without : (s .phase ≡ 2 → ⊥) → a ≡ answers.report s 15 n 0 → a ≡ answers.ending s n
+  pub ends-without : (s .phase ≡ steps → ⊥) → a ≡ answers.report s NOGOAL n 0 → a ≡ answers.ending s n
   unfolding answers.ending
-  ends-without h e = rw (ne-eqb (s .phase) 2 h) e
+  ends-without h e = rw (ne-eqb (s .phase) steps h) e
 
-  pub ends-short : s .phase ≡ 2 → s .reached ≡ false → a ≡ answers.report s 16 n 0 → a ≡ answers.ending s n
+  pub ends-short : s .phase ≡ steps → s .reached ≡ false → a ≡ answers.report s NOTREACHED n 0 → a ≡ answers.ending s n
   unfolding answers.ending answers.report
-  ends-short h r e = rw (eq-eqb (s .phase) 2 h, r) e
+  ends-short h r e = rw (eq-eqb (s .phase) steps h, r) e
 
-  pub ends-well : s .phase ≡ 2 → s .reached ≡ true → a ≡ answers.report s 0 0 0 → a ≡ answers.ending s n
+  pub ends-well : s .phase ≡ steps → s .reached ≡ true → a ≡ answers.report s ACCEPTED 0 0 → a ≡ answers.ending s n
   unfolding answers.ending answers.report
-  ends-well h r e = rw (eq-eqb (s .phase) 2 h, r) e
+  ends-well h r e = rw (eq-eqb (s .phase) steps h, r) e
 
 -- ---- the next line
 abbrev lineAt : Bytes → ℕ → ℕ → Line
