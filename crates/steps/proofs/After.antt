@@ -9,8 +9,7 @@ use lib.ListN.{length}
 use Rattle.ground.specs.Lists.{any, total}
 use Rattle.algebra.specs.Polynomial.{Poly, vars, equal, extension, allVars}
 use Rattle.paper.specs.Statement.{Written, Pair, ring, input, goal, lin, del, ext, fields, reduced}
-use Rattle.paper.specs.Rules.{modulo, bits, inputs, steps, State, find, remove, entries, makesSeen, productCount, holdsGoal, after}
-use Rattle.steps.proofs.Rows.{only}
+use Rattle.paper.specs.Rules.{entry, modulo, bits, inputs, steps, State, find, remove, entries, makesSeen, productCount, holdsGoal, after}
 
 module _ (s : State) where
   abbrev k : ℕ
@@ -71,7 +70,7 @@ module _ (s : State) where
       ≡ record {
         phase = s .phase;
         ring = s .ring;
-        store = s .store ++ only x (reduced k w);
+        store = s .store ++ entry x (reduced k w);
         seen = bitOr (vars (reduced k w)) (s .seen);
         goal = s .goal;
         reached = false;
@@ -81,7 +80,7 @@ module _ (s : State) where
   after-input x w = λ i. record {
     phase = s .phase;
     ring = s .ring;
-    store = s .store ++ only x (reduced k w);
+    store = s .store ++ entry x (reduced k w);
     seen = bitOr (one (reduced k w) i) (s .seen);
     goal = s .goal;
     reached = false;
@@ -89,7 +88,7 @@ module _ (s : State) where
   }
 
   -- reached before, or the goal is the one polynomial that is stored
-  reaches : (g p : Poly) (b : Bool) (x : ℕ) → (b || holdsGoal g (only x p)) ≡ (b || equal p g)
+  reaches : (g p : Poly) (b : Bool) (x : ℕ) → (b || holdsGoal g (entry x p)) ≡ (b || equal p g)
   unfolding holdsGoal any
   reaches g p b x = ap (λ (c : Bool). b || c) (or-false (equal p g))
 
@@ -97,7 +96,7 @@ module _ (s : State) where
       ≡ record {
         phase = s .phase;
         ring = s .ring;
-        store = s .store ++ only x (extension k v (reduced k w));
+        store = s .store ++ entry x (extension k v (reduced k w));
         seen = bitOr (bitOr (2 ^ v) (vars (reduced k w))) (s .seen);
         goal = s .goal;
         reached = s .reached || equal (extension k v (reduced k w)) (s .goal);
@@ -107,7 +106,7 @@ module _ (s : State) where
   after-ext x v w = λ i. record {
     phase = s .phase;
     ring = s .ring;
-    store = s .store ++ only x (extension k v (reduced k w));
+    store = s .store ++ entry x (extension k v (reduced k w));
     seen = bitOr (bitOr (2 ^ v) (or-zero-r (vars (reduced k w)) i)) (s .seen);
     goal = s .goal;
     reached = reaches (s .goal) (extension k v (reduced k w)) (s .reached) x i;
@@ -118,7 +117,7 @@ module _ (s : State) where
       ≡ record {
         phase = s .phase;
         ring = s .ring;
-        store = s .store ++ only x (reduced k w);
+        store = s .store ++ entry x (reduced k w);
         seen = bitOr (bitOr (vars (reduced k w)) (allVars (map (λ q. reduced k (q .factor)) qs))) (s .seen);
         goal = s .goal;
         reached = s .reached || equal (reduced k w) (s .goal);
@@ -128,7 +127,7 @@ module _ (s : State) where
   after-lin x w qs = λ i. record {
     phase = s .phase;
     ring = s .ring;
-    store = s .store ++ only x (reduced k w);
+    store = s .store ++ entry x (reduced k w);
     seen = bitOr (seen i) (s .seen);
     goal = s .goal;
     reached = reaches (s .goal) (reduced k w) (s .reached) x i;

@@ -15,7 +15,7 @@ use Rattle.algebra.specs.Polynomial.{has, Poly, vars, equal, reduce, product, e
 use Rattle.algebra.proofs.Unions.{or-assoc}
 use Rattle.words.specs.Words.{number}
 use Rattle.terms.specs.Terms.{decode}
-use Rattle.paper.specs.Rules.{modulo, steps, stored, find, combination}
+use Rattle.paper.specs.Rules.{entry, modulo, steps, stored, find, combination}
 use Rattle.paper.specs.Grammar.{Bytes, decimal}
 use Rattle.paper.specs.Statement.{Written, Pair, lin, ext, reduced}
 use Rattle.reader.specs.Places.{Got}
@@ -32,7 +32,7 @@ use Rattle.steps.specs.Steps.{Says, Room, Does}
 use Rattle.steps.specs.Parts.{admits, sums, extends}
 use Rattle.steps.specs.Checks.{Extends, AddsUp}
 use Rattle.steps.proofs.Said.{ext-index, ext-read, lin-index, lin-read}
-use Rattle.steps.proofs.Rows.{fits, only, first-ext, first-lin, else-same, three-else}
+use Rattle.steps.proofs.Rows.{fits, first-ext, first-lin, else-same, three-else}
 use Rattle.steps.proofs.After.{after-ext, after-lin}
 use Rattle.steps.proofs.Keeping.{Judged}
 use Rattle.steps.proofs.Admitting.{unadmitted, admitted, admitted-free}
@@ -42,7 +42,7 @@ use Rattle.steps.proofs.Admitting.{unadmitted, admitted, admitted-free}
 abbrev extLater : ℕ → State → List ℕ → ℕ → ℕ → Poly → ℕ
 extLater capacity s pool x u p =
     extends (has (bitOr (vars p) (number (s .seen))) u) (length p * length p) (equal (product (s .ring) p p) p)
-    (fits capacity (storeOf (s .table) pool) (only x (extension (s .ring) u p)))
+    (fits capacity (storeOf (s .table) pool) (entry x (extension (s .ring) u p)))
 
 module _ {line : Bytes} {capacity : ℕ} {s : State} {pool scratch : List ℕ} {x e v : ℕ} (h : Says line Ext) (g : Got decimal line 4 x e)
     (q : v ≡ admits steps (s .phase) (stored (storeOf (s .table) pool) x) 0) where
@@ -74,9 +74,9 @@ module _ {line : Bytes} {capacity : ℕ} {s : State} {pool scratch : List ℕ} {
               ∙ admitted steps (s .phase) (stored (storeOf (s .table) pool) x) q z (extLater capacity s pool x u (reduced (s .ring) w))
               ∙ ap (extLater capacity s pool x u) (sym (a .run))
               ∙ three-else (has (bitOr (vars p) (number (s .seen))) u) (ltb lineProducts (length p * length p)) (not (equal (product (s .ring) p p) p)) SEEN PRODUCTS NOTBIT
-              (fits capacity (storeOf (s .table) pool) (only x (extension (s .ring) u p))) (omega arith) (omega arith) (omega arith) (m .verdict)
-              ∙ else-same (c .verdict) (fits capacity (storeOf (s .table) pool) (only x (extension (s .ring) u p))) (fits capacity (storeOf (s .table) pool) (only x made))
-              (λ b. ap (λ (y : Poly). fits capacity (storeOf (s .table) pool) (only x y)) (sym (m .stands b .run)));
+              (fits capacity (storeOf (s .table) pool) (entry x (extension (s .ring) u p))) (omega arith) (omega arith) (omega arith) (m .verdict)
+              ∙ else-same (c .verdict) (fits capacity (storeOf (s .table) pool) (entry x (extension (s .ring) u p))) (fits capacity (storeOf (s .table) pool) (entry x made))
+              (λ b. ap (λ (y : Poly). fits capacity (storeOf (s .table) pool) (entry x y)) (sym (m .stands b .run)));
           next = λ b.
               let seen : bitOr (bitOr (2 ^ u) (vars (reduced (s .ring) w))) (number (s .seen)) ≡ number (c .seen)
               = ap (λ (y : Poly). bitOr (bitOr (2 ^ u) (vars y)) (number (s .seen))) (sym (a .run)) ∙ sym (m .stands b .seen) in
@@ -86,7 +86,7 @@ module _ {line : Bytes} {capacity : ℕ} {s : State} {pool scratch : List ℕ} {
               after-ext (stateOf s pool scratch) x u w ∙ (λ i. record {
                 phase = s .phase;
                 ring = modulo (s .ring);
-                store = storeOf (s .table) pool ++ only x (grow b i);
+                store = storeOf (s .table) pool ++ entry x (grow b i);
                 seen = seen i;
                 goal = decode (s .«goal_terms») (drop goalAt scratch);
                 reached = aim i;
@@ -105,7 +105,7 @@ abbrev linLater : ℕ → State → List ℕ → ℕ → List Pair → Poly → 
 linLater capacity s pool x qs p =
     sums (every (stored (storeOf (s .table) pool)) (map (λ q. q .index) qs)) (productsOf (s .ring) (find (storeOf (s .table) pool)) qs)
     (equal p (reduce (s .ring) (combination (s .ring) (find (storeOf (s .table) pool)) qs)))
-    (fits capacity (storeOf (s .table) pool) (only x p))
+    (fits capacity (storeOf (s .table) pool) (entry x p))
 
 module _ {line : Bytes} {capacity : ℕ} {s : State} {pool scratch : List ℕ} {x e v : ℕ} (h : Says line Lin) (g : Got decimal line 4 x e)
     (q : v ≡ admits steps (s .phase) (stored (storeOf (s .table) pool) x) 0) where
@@ -136,9 +136,9 @@ module _ {line : Bytes} {capacity : ℕ} {s : State} {pool scratch : List ℕ} {
               ∙ admitted steps (s .phase) (stored (storeOf (s .table) pool) x) q z (linLater capacity s pool x qs p)
               ∙ three-else (not (every (stored (storeOf (s .table) pool)) (map (λ q. q .index) qs))) (ltb lineProducts (productsOf (s .ring) (find (storeOf (s .table) pool)) qs))
               (not (equal p (reduce (s .ring) (combination (s .ring) (find (storeOf (s .table) pool)) qs)))) MISSING PRODUCTS MISMATCH
-              (fits capacity (storeOf (s .table) pool) (only x p)) (omega arith) (omega arith) (omega arith) (m .verdict)
-              ∙ else-same (c .verdict) (fits capacity (storeOf (s .table) pool) (only x p)) (fits capacity (storeOf (s .table) pool) (only x p₂))
-              (λ b. ap (λ (y : Poly). fits capacity (storeOf (s .table) pool) (only x y)) (sym (m .stands b .run)));
+              (fits capacity (storeOf (s .table) pool) (entry x p)) (omega arith) (omega arith) (omega arith) (m .verdict)
+              ∙ else-same (c .verdict) (fits capacity (storeOf (s .table) pool) (entry x p)) (fits capacity (storeOf (s .table) pool) (entry x p₂))
+              (λ b. ap (λ (y : Poly). fits capacity (storeOf (s .table) pool) (entry x y)) (sym (m .stands b .run)));
           next = λ b.
               let same : p ≡ p₂ = sym (m .stands b .run) in
               let factors : ℕ = allVars (map (λ q. reduced (s .ring) (q .factor)) qs) in
@@ -149,7 +149,7 @@ module _ {line : Bytes} {capacity : ℕ} {s : State} {pool scratch : List ℕ} {
               after-lin (stateOf s pool scratch) x w qs ∙ (λ i. record {
                 phase = s .phase;
                 ring = modulo (s .ring);
-                store = storeOf (s .table) pool ++ only x (same i);
+                store = storeOf (s .table) pool ++ entry x (same i);
                 seen = shown i;
                 goal = decode (s .«goal_terms») (drop goalAt scratch);
                 reached = aim i;

@@ -15,7 +15,7 @@ use Rattle.words.specs.Words.{number}
 use Rattle.terms.specs.Terms.{decode}
 use Rattle.paper.specs.Grammar.{Bytes, decimal}
 use Rattle.paper.specs.Statement.{Written, input, goal, reduced}
-use Rattle.paper.specs.Rules.{modulo, inputs, steps, stored, holdsGoal}
+use Rattle.paper.specs.Rules.{entry, modulo, inputs, steps, stored, holdsGoal}
 use Rattle.reader.specs.Places.{Got}
 use Rattle.reader.specs.declared.line.Kind.the-variants.{Input, Goal}
 use Rattle.fields.specs.declared.FieldRun.{FieldRun}
@@ -27,7 +27,7 @@ use Rattle.steps.specs.State.{stateOf}
 use Rattle.steps.specs.Steps.{Says, Room, Does}
 use Rattle.steps.specs.Parts.{admits}
 use Rattle.steps.proofs.Said.{said, input-index, input-read, goal-read}
-use Rattle.steps.proofs.Rows.{fits, only, first-input, first-goal}
+use Rattle.steps.proofs.Rows.{fits, first-input, first-goal}
 use Rattle.steps.proofs.After.{after-input, after-goal}
 use Rattle.steps.proofs.Stepping.{does, stepped-refused, told}
 use Rattle.steps.proofs.Keeping.{Judged}
@@ -54,12 +54,12 @@ module _ {line : Bytes} {capacity : ℕ} {s : State} {pool scratch : List ℕ} {
         statement = input x w;
         said = t;
         rows = first-input capacity (stateOf s pool scratch) x w (t .ranged) (t .short)
-            ∙ admitted inputs (s .phase) (stored (storeOf (s .table) pool) x) q z (fits capacity (storeOf (s .table) pool) (only x (reduced (s .ring) w)))
-            ∙ ap (λ (y : Poly). fits capacity (storeOf (s .table) pool) (only x y)) same;
+            ∙ admitted inputs (s .phase) (stored (storeOf (s .table) pool) x) q z (fits capacity (storeOf (s .table) pool) (entry x (reduced (s .ring) w)))
+            ∙ ap (λ (y : Poly). fits capacity (storeOf (s .table) pool) (entry x y)) same;
         next = λ _. after-input (stateOf s pool scratch) x w ∙ (λ i. record {
           phase = s .phase;
           ring = modulo (s .ring);
-          store = storeOf (s .table) pool ++ only x (same i);
+          store = storeOf (s .table) pool ++ entry x (same i);
           seen = bitOr (vars (same i)) (number (s .seen));
           goal = decode (s .«goal_terms») (drop goalAt scratch);
           reached = false;

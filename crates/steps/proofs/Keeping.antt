@@ -19,7 +19,7 @@ use Rattle.terms.proofs.Decode.{decode-length, decode-paste}
 use Rattle.paper.specs.Grammar.{Bytes}
 use Rattle.paper.specs.Statement.{Statement}
 use Rattle.paper.specs.Rules as paper
-use Rattle.paper.specs.Rules.{Store, modulo, stored, first, rules, overfull, after}
+use Rattle.paper.specs.Rules.{entry, Store, modulo, stored, first, rules, overfull, after}
 use Rattle.paper.proofs.Store.{Distinct, distinct-append}
 use Rattle.table.specs.declared.Table.{Table}
 use Rattle.table.specs.Table.{storeOf, Fitting}
@@ -32,7 +32,7 @@ use Rattle.steps.specs.State.{stateOf, Ready}
 use Rattle.steps.specs.Steps.{Room, Does}
 use Rattle.steps.specs.Parts.{Keeps}
 use Rattle.steps.proofs.Said.{Said}
-use Rattle.steps.proofs.Rows.{fits, only, else-stop}
+use Rattle.steps.proofs.Rows.{fits, else-stop}
 use Rattle.steps.proofs.Stepping.{does, stepped-refused, told}
 
 -- what the line changes besides the table
@@ -45,7 +45,7 @@ abbrev gained : paper.State → ℕ → Poly → Gain → paper.State
 gained s i p g = record {
   phase = s .phase;
   ring = s .ring;
-  store = s .store ++ only i p;
+  store = s .store ++ entry i p;
   seen = g .seen;
   goal = s .goal;
   reached = g .reached;
@@ -70,7 +70,7 @@ pub record Judged (line : Bytes) (capacity : ℕ) (s : State) (pool scratch scra
   pub statement : Statement
   pub said : Said line statement
   pub rows : first (rules capacity (stateOf s pool scratch) statement)
-      ≡ cond (eqb v ACCEPTED) (fits capacity (storeOf (s .table) pool) (only i (decode n (drop statedAt scratch′)))) v
+      ≡ cond (eqb v ACCEPTED) (fits capacity (storeOf (s .table) pool) (entry i (decode n (drop statedAt scratch′)))) v
   pub next : v ≡ 0 → after (stateOf s pool scratch) statement ≡ gained (stateOf s pool scratch) i (decode n (drop statedAt scratch′)) g
   pub free : v ≡ 0 → stored (storeOf (s .table) pool) i ≡ false
   pub few : v ≡ 0 → n ≤ fieldTerms
@@ -130,7 +130,7 @@ keeps-stands {v} {n} {stored} {used} {capacity} k z =
 
 -- whether there is room, by the table's numbers
 full : (s : Table) (pool : List ℕ) (capacity i n : ℕ) (l : List ℕ) → Fitting s pool capacity
-    → overfull capacity (storeOf s pool) (only i (decode n l)) ≡ (leb storedPolynomials (s .stored) || ltb capacity (s .used + n))
+    → overfull capacity (storeOf s pool) (entry i (decode n l)) ≡ (leb storedPolynomials (s .stored) || ltb capacity (s .used + n))
 unfolding overfull
 full s pool capacity i n l f = rw (store-length s pool, store-terms s pool (f .packed), decode-length n l)
 
@@ -185,10 +185,10 @@ module _ {line : Bytes} {capacity : ℕ} {s : State} {pool scratch scratch′ po
       within = subst (Within (s .table .used * termWords) (s .table .used * termWords + n * termWords) pool) (sym e)
           (paste-within pool (s .table .used * termWords) (drop statedAt scratch′) (n * termWords) long enough)
 
-      store : storeOf t pool′ ≡ storeOf (s .table) pool ++ only i (decode n (drop statedAt scratch′))
+      store : storeOf t pool′ ≡ storeOf (s .table) pool ++ entry i (decode n (drop statedAt scratch′))
       store = p .store pool′
-          ∙ ap (λ (u : Store). u ++ only i (decode n (drop (s .table .used * termWords) pool′))) (store-kept (s .table) pool pool′ (s .table .used * termWords) (s .table .used * termWords + n * termWords) (o .fitting .packed) within (omega arith))
-          ∙ ap (λ (q : Poly). storeOf (s .table) pool ++ only i q) (ap (λ (x : List ℕ). decode n (drop (s .table .used * termWords) x)) e ∙ decode-paste n (s .table .used * termWords) pool (drop statedAt scratch′) long enough)
+          ∙ ap (λ (u : Store). u ++ entry i (decode n (drop (s .table .used * termWords) pool′))) (store-kept (s .table) pool pool′ (s .table .used * termWords) (s .table .used * termWords + n * termWords) (o .fitting .packed) within (omega arith))
+          ∙ ap (λ (q : Poly). storeOf (s .table) pool ++ entry i q) (ap (λ (x : List ℕ). decode n (drop (s .table .used * termWords) x)) e ∙ decode-paste n (s .table .used * termWords) pool (drop statedAt scratch′) long enough)
 
       follows : stateOf (grown s t seen reached (g .products)) pool′ scratch′ ≡ gained (stateOf s pool scratch) i (decode n (drop statedAt scratch′)) g
       follows = λ x. record {

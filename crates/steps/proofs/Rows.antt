@@ -1,7 +1,7 @@
 -- The verdict of the first row that refuses a statement of each kind. Assumes nothing.
 use mathlib.Core.Path.{_≡_, refl, sym, ap, ap₂, _∙_}
 use mathlib.Core.Bool.{Bool, true, false, not, cond, or-false, and-true}
-use mathlib.Core.List.{List, [], _∷_, map}
+use mathlib.Core.List.{List, map}
 use Prim.Native.Nat.{ℕ, _*_, _<_}
 use native.Mathlib.Nat.{zero-add, add-zero}
 use native.Mathlib.Omega.{arith}
@@ -12,13 +12,10 @@ use borrow.Author.Tests.{eqb-true, ne-eqb}
 use Rattle.ground.specs.Lists.{every, any, total}
 use Rattle.limits.specs.Limits.{lineProducts}
 use Rattle.limits.specs.Verdicts.{ACCEPTED, ORDER, TAKEN, MISSING, SEEN, PRODUCTS, MISMATCH, NOTBIT, FULL}
-use Rattle.algebra.specs.Polynomial.{Poly, has, vars, equal, reduce, product, extension}
-use Rattle.paper.specs.Rules.{first, bits, opening, inputs, steps, State, Store, stored, find, rules, place, entries, productCount, combination, overfull}
+use Rattle.algebra.specs.Polynomial.{has, vars, equal, reduce, product, extension}
+use Rattle.paper.specs.Rules.{entry, first, bits, opening, inputs, steps, State, Store, stored, find, rules, place, entries, productCount, combination, overfull}
 use Rattle.paper.specs.Statement.{Written, Pair, Statement, onLin, onExt, ring, input, goal, lin, del, ext, newIndex, namedIndices, fields, numbersInRange, tooManyTerms, reduced}
 use Rattle.steps.specs.Parts.{admits, sums, extends}
-
-abbrev pub only : ℕ → Poly → Store
-only i p = record { index = i; poly = p } ∷ []
 
 abbrev pub fits : ℕ → Store → Store → ℕ
 fits capacity s es = cond (overfull capacity s es) FULL ACCEPTED
@@ -58,25 +55,25 @@ module _ (capacity : ℕ) (s : State) where
       ∙ ap (λ (b : Bool). cond (not (eqb steps (s .phase))) ORDER (cond (not b) MISSING ACCEPTED)) (and-true (stored (s .store) i))
 
   pub first-input : (i : ℕ) (p : Written) → numbersInRange (input i p) ≡ true → any tooManyTerms (fields (input i p)) ≡ false
-      → first (rules capacity s (input i p)) ≡ admits inputs (s .phase) (stored (s .store) i) (fits capacity (s .store) (only i (reduced k p)))
+      → first (rules capacity s (input i p)) ≡ admits inputs (s .phase) (stored (s .store) i) (fits capacity (s .store) (entry i (reduced k p)))
   unfolding place newIndex namedIndices any every productCount entries
   first-input i p r t =
       first-said (input i p) r t
-      ∙ ap (λ (b : Bool). admits inputs (s .phase) b (fits capacity (s .store) (only i (reduced k p)))) (or-false (stored (s .store) i))
+      ∙ ap (λ (b : Bool). admits inputs (s .phase) b (fits capacity (s .store) (entry i (reduced k p)))) (or-false (stored (s .store) i))
 
   pub first-ext : (i v : ℕ) (p : Written) → numbersInRange (ext i v p) ≡ true → any tooManyTerms (fields (ext i v p)) ≡ false
       → first (rules capacity s (ext i v p))
       ≡ admits steps (s .phase) (stored (s .store) i)
       (extends (has (bitOr (vars (reduced k p)) (s .seen)) v) (length (reduced k p) * length (reduced k p))
       (equal (product k (reduced k p) (reduced k p)) (reduced k p))
-      (fits capacity (s .store) (only i (extension k v (reduced k p)))))
+      (fits capacity (s .store) (entry i (extension k v (reduced k p)))))
   unfolding place newIndex namedIndices any every productCount entries
   first-ext i v p r t =
       first-said (ext i v p) r t
       ∙ ap₂ (λ (b : Bool) (n : ℕ). admits steps (s .phase) b
       (extends (has (bitOr (vars (reduced k p)) (s .seen)) v) n
       (equal (product k (reduced k p) (reduced k p)) (reduced k p))
-      (fits capacity (s .store) (only i (extension k v (reduced k p))))))
+      (fits capacity (s .store) (entry i (extension k v (reduced k p))))))
       (or-false (stored (s .store) i)) (zero-add (length (reduced k p) * length (reduced k p)))
 
   pub first-lin : (i : ℕ) (p : Written) (qs : List Pair) → numbersInRange (lin i p qs) ≡ true → any tooManyTerms (fields (lin i p qs)) ≡ false
@@ -85,14 +82,14 @@ module _ (capacity : ℕ) (s : State) where
       (sums (every (stored (s .store)) (map (λ q. q .index) qs))
       (total (λ q. length (reduced k (q .factor)) * length (find (s .store) (q .index))) qs)
       (equal (reduced k p) (reduce k (combination k (find (s .store)) qs)))
-      (fits capacity (s .store) (only i (reduced k p))))
+      (fits capacity (s .store) (entry i (reduced k p))))
   unfolding place newIndex namedIndices any productCount entries
   first-lin i p qs r t =
       first-said (lin i p qs) r t
       ∙ ap₂ (λ (b : Bool) (n : ℕ). admits steps (s .phase) b
       (sums (every (stored (s .store)) (map (λ q. q .index) qs)) n
       (equal (reduced k p) (reduce k (combination k (find (s .store)) qs)))
-      (fits capacity (s .store) (only i (reduced k p)))))
+      (fits capacity (s .store) (entry i (reduced k p)))))
       (or-false (stored (s .store) i)) (add-zero (total (λ q. length (reduced k (q .factor)) * length (find (s .store) (q .index))) qs))
 
 -- ---- tests in a row
