@@ -1,4 +1,2 @@
-pub mod Judging
-pub mod Indices
 pub mod Running
 pub mod Checking

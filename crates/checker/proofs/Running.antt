@@ -23,7 +23,7 @@ use Rattle.steps.specs.declared.state.State.{State}
 use Rattle.steps.specs.declared.state.Step.{Step}
 use Rattle.steps.specs.State.{stateOf, Ready, Fresh}
 use Rattle.steps.specs.Steps.{Room}
-use Rattle.checker.specs.Checked.{indexOfRead, LineJudged}
+use Rattle.judging.specs.Judged.{indexOfRead, LineJudged}
 
 -- ---- answers
 counts : {v n i p m t k l : ℕ} → m ≡ k → t ≡ l → _≡_ {A = answers.Answer} (record { verdict = v; line = n; index = i; products = p; polynomials = m; terms = t }) (record { verdict = v; line = n; index = i; products = p; polynomials = k; terms = l })

@@ -4,7 +4,6 @@ ghost use Rattle.paper.specs.Answer as paper;
 ghost use Rattle.checker.specs.Checked.{Checked};
 
 pub mod answer;
-pub mod line;
 pub mod run;
 
 use answer::Answer;

@@ -5,7 +5,7 @@ use Prim.Native.Nat.{_+_, _-_}
 use native.Mathlib.Omega.{arith}
 use lib.ListN.{length}
 use borrow.Author.Needs.{needs}
-use Rattle.checker.proofs.Indices.{refused-ranged}
+use Rattle.judging.proofs.Indices.{refused-ranged}
 use Rattle.checker.proofs.Running.{Onward, onward-start, onward-end, onward-room, onward-more, onward-refused, onward-packed}
 use Rattle.checker.proofs.run.run.Statement.{statement}
 use Rattle.checker.proofs.run.run.Tie as tie

@@ -1,8 +1,8 @@
--- `checker::line::step` meets its contract: by the kind of the statement. No loop. Assumes nothing.
-use Rattle.checker.proofs.Judging.{says-as}
+-- `judging::step` meets its contract: by the kind of the statement. No loop. Assumes nothing.
+use Rattle.judging.proofs.Judging.{says-as}
 use borrow.Author.Needs.{needs}
-use Rattle.checker.proofs.line.step.Statement.{statement}
-use Rattle.checker.proofs.line.step.Tie as tie
+use Rattle.judging.proofs.step.Statement.{statement}
+use Rattle.judging.proofs.step.Tie as tie
 
 enum-told : tie.Need-enum-told
 enum-told c = search needs

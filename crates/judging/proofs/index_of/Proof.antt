@@ -1,10 +1,10 @@
--- `checker::line::index_of` meets its contract: by the kind of the statement. No loop. Assumes nothing.
+-- `judging::index_of` meets its contract: by the kind of the statement. No loop. Assumes nothing.
 use mathlib.Core.Path.{sym}
 use Rattle.reader.specs.declared.line.Kind.the-variants.{Ring, Input, Goal, Lin, Del, Ext}
-use Rattle.checker.proofs.Indices.{indexed, index-same, index-read}
+use Rattle.judging.proofs.Indices.{indexed, index-same, index-read}
 use borrow.Author.Needs.{needs}
-use Rattle.checker.proofs.line.index_of.Statement.{statement}
-use Rattle.checker.proofs.line.index_of.Tie as tie
+use Rattle.judging.proofs.index_of.Statement.{statement}
+use Rattle.judging.proofs.index_of.Tie as tie
 
 enum-told : tie.Need-enum-told
 enum-told c = search needs

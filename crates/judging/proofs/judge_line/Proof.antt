@@ -1,8 +1,8 @@
--- `checker::line::judge_line` meets its contract: too long, not to be read, refused by the scan, or stepped. No loop. Assumes nothing.
-use Rattle.checker.proofs.Judging.{scanned, halted, stands-says, judged-long, judged-stuck, judged-scan, judged-step}
+-- `judging::judge_line` meets its contract: too long, not to be read, refused by the scan, or stepped. No loop. Assumes nothing.
+use Rattle.judging.proofs.Judging.{scanned, halted, stands-says, judged-long, judged-stuck, judged-scan, judged-step}
 use borrow.Author.Needs.{needs}
-use Rattle.checker.proofs.line.judge_line.Statement.{statement}
-use Rattle.checker.proofs.line.judge_line.Tie as tie
+use Rattle.judging.proofs.judge_line.Statement.{statement}
+use Rattle.judging.proofs.judge_line.Tie as tie
 
 judged-requires : tie.Need-judged-requires
 judged-requires c κs = search needs

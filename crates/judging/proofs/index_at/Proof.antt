@@ -1,7 +1,7 @@
--- `checker::line::index_at` meets its contract: a decimal has one value. No loop. Assumes nothing.
+-- `judging::index_at` meets its contract: a decimal has one value. No loop. Assumes nothing.
 use Rattle.fields.proofs.Taking.{same-value}
-use Rattle.checker.proofs.line.index_at.Statement.{statement}
-use Rattle.checker.proofs.line.index_at.Tie as tie
+use Rattle.judging.proofs.index_at.Statement.{statement}
+use Rattle.judging.proofs.index_at.Tie as tie
 
 take-decimal-requires : tie.Need-take-decimal-requires
 take-decimal-requires c κs = c .before .pre

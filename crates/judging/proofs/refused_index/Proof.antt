@@ -1,11 +1,11 @@
--- `checker::line::refused_index` meets its contract: from TERMS on the index of the statement is read. No loop. Assumes nothing.
+-- `judging::refused_index` meets its contract: from TERMS on the index of the statement is read. No loop. Assumes nothing.
 use mathlib.Core.Path.{sym}
 use Rattle.paper.specs.Grammar.{statement as read}
-use Rattle.checker.proofs.Judging.{scanned, halted, no-index}
-use Rattle.checker.proofs.Indices.{stands-ranged, reported, unreported}
+use Rattle.judging.proofs.Judging.{scanned, halted, no-index}
+use Rattle.judging.proofs.Indices.{stands-ranged, reported, unreported}
 use borrow.Author.Needs.{needs}
-use Rattle.checker.proofs.line.refused_index.Statement.{statement}
-use Rattle.checker.proofs.line.refused_index.Tie as tie
+use Rattle.judging.proofs.refused_index.Statement.{statement}
+use Rattle.judging.proofs.refused_index.Tie as tie
 
 returns : tie.Need-returns
 returns c = let a = c .before .before .args in sym (no-index (a .v) (read (record { content = a .line .now; ended = a .ended })) (c .if1 .taken))

@@ -23,7 +23,7 @@ use Rattle.steps.specs.declared.state.State.{State}
 use Rattle.steps.specs.declared.state.Step.{Step}
 use Rattle.steps.specs.State.{stateOf}
 use Rattle.steps.specs.Steps.{Says, Does}
-use Rattle.checker.specs.Checked.{indexOfRead, LineJudged}
+use Rattle.judging.specs.Judged.{indexOfRead, LineJudged}
 
 abbrev lineOf : Bytes → Bool → Line
 lineOf s ended = record { content = s; ended = ended }
@@ -90,6 +90,7 @@ module _ {capacity : ℕ} {l : Line} {s : State} {pool scratch : List ℕ} {r : 
         ready = λ z. absurd (n (sym (h .0) ∙ z));
         refused = λ _. subst (λ (w : ℕ). judgeLine capacity (stateOf s pool scratch) l ≡ refused w (indexOfRead w (statement l))) (sym (h .0)) e;
         back = λ _. h .1;
+        untouched = λ _. refl;
         lines = ap (λ (x : State). x .lines) (h .1);
         pool-length = refl;
         scratch-length = refl;
@@ -126,6 +127,7 @@ module _ {line : Bytes} {ended : Bool} (m : length line ≤ lineBytes) {k : Kind
         ready = q .ready;
         refused = λ n. read-refused capacity (stateOf s pool scratch) (r .verdict) n (q .verdict);
         back = q .back;
+        untouched = q .untouched;
         lines = q .lines;
         pool-length = q .pool-length;
         scratch-length = q .scratch-length;

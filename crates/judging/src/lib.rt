@@ -10,7 +10,7 @@ ghost use Rattle.paper.specs.Statement.{Statement, numbersInRange};
 ghost use Rattle.paper.specs.Answer.{indexOf};
 ghost use Rattle.fields.specs.Fields.{Good, isWord};
 ghost use Rattle.steps.specs.Steps.{Says, Room, Does};
-ghost use Rattle.checker.specs.Checked.{Ranged, indexOfRead, LineJudged};
+ghost use Rattle.judging.specs.Judged.{Ranged, indexOfRead, LineJudged};
 use reader::line::Kind;
 use reader::line::LineScan;
 use reader::line::scan_line;
@@ -40,7 +40,7 @@ fn step(
 }
 
 // Judges a line, whose byte 10 is taken off.
-pub(crate) fn judge_line(
+pub fn judge_line(
     state: State,
     line: &[u8],
     ended: bool,
@@ -88,7 +88,7 @@ fn index_of(line: &[u8], kind: Kind) -> u64
 }
 
 // The index that a line refused with v reports.
-pub(crate) fn refused_index(line: &[u8], ended: bool, v: u64) -> u64
+pub fn refused_index(line: &[u8], ended: bool, v: u64) -> u64
     requires { ⌜ ((st : Statement) → statement (record { content = now line; ended = ended }) ≡ got st [] → TERMS ≤ v → numbersInRange st ≡ true) ⌝ }
     ensures { λ r. ⌜ r ≡ indexOfRead v (statement (record { content = now (line .entry); ended = ended })) ⌝ }
 {

@@ -27,8 +27,8 @@ use Rattle.fields.proofs.Taking.{same-value}
 use Rattle.steps.specs.declared.state.State.{State}
 use Rattle.steps.specs.declared.state.Step.{Step}
 use Rattle.steps.specs.State.{stateOf}
-use Rattle.checker.specs.Checked.{Ranged, indexOfRead, LineJudged}
-use Rattle.checker.proofs.Judging.{ended-got}
+use Rattle.judging.specs.Judged.{Ranged, indexOfRead, LineJudged}
+use Rattle.judging.proofs.Judging.{ended-got}
 
 -- ---- where an index stands
 index-word : (i : ℕ) → isIndex i ≡ true → isWord i ≡ true
