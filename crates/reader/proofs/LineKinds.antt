@@ -10,7 +10,7 @@ use lib.Seq.{drop-cons, drop-length}
 use borrow.Author.Tests.{ltb-true, ltb-false, ne-eqb}
 use Rattle.ground.specs.Lists.{every, any}
 use Rattle.ground.proofs.Tests.{by-cond}
-use Rattle.limits.specs.Limits.{variables, greatestRing, greatestIndex}
+use Rattle.limits.specs.Limits.{variables, greatestRing}
 use Rattle.limits.specs.Verdicts.{ACCEPTED, NUMBER, TERMS}
 use Rattle.paper.specs.Grammar.{Bytes, bytes, Read, got, stuck, Reader, next, give, literal, end, tab, number, field, pair, kinds, beginsAlike, oneOf, statement}
 use Rattle.paper.specs.Statement.{Written, Pair, Statement, ring, input, goal, lin, del, ext, fields, within, isIndex, inRange, numbersInRange, tooManyTerms}
@@ -26,17 +26,10 @@ use Rattle.reader.specs.declared.line.LineScan.the-variants.{Line, Stuck
 use Rattle.reader.proofs.Scans.{got-then, fails-then, fails-first, got-as, fails-as, got-give, next-same}
 use Rattle.reader.proofs.Polynomials.{variable-range}
 use Rattle.reader.proofs.Fields.{FieldsAt, whole, closing}
-use Rattle.reader.proofs.Lines.{scans-as, scans-behind, ranged-ring, ranged-input, ranged-goal, ranged-lin, ranged-del, ranged-ext, few-one, few-lin}
+use Rattle.reader.proofs.Lines.{scans-as, ranged-ring, ranged-input, ranged-goal, ranged-lin, ranged-del, ranged-ext, few-one, few-lin}
 
 -- ---- the kinds
 module _ (w : Bytes) {s : Bytes} where
-  pub behind-fails : {A : Type 0} (read : Reader A) {p : ℕ} → Fails (literal w) s 0 p → Fails (behind w read) s 0 p
-  behind-fails read f = fails-first (literal w) (λ _. read) f
-
-  pub index-behind : {m : ℕ} {r : FieldScan} → Got (literal w) s 0 tt m → Scans number (within 1 greatestIndex) always s m r → Scans (behind w number) isIndex always s 0 r
-  unfolding isIndex
-  index-behind k h = scans-behind (literal w) number k h
-
   -- a keyword, an index and what G reads behind them
   module _ (G : ℕ → Reader Statement) where
     pub indexed-fails : {p : ℕ} → Fails (behind w number) s 0 p → Fails (behind w (λ r. next (number r) G)) s 0 p

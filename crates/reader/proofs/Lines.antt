@@ -10,14 +10,14 @@ use lib.Seq.{drop-cons}
 use borrow.Author.Tests.{eq-eqb, ne-eqb}
 use Rattle.ground.specs.Lists.{every, any}
 use Rattle.limits.specs.Limits.{greatestRing, greatestIndex}
-use Rattle.paper.specs.Grammar.{Bytes, bytes, got, stuck, Reader, next, literal, decimal, polynomial, tab, number, field, pair}
+use Rattle.paper.specs.Grammar.{Bytes, bytes, got, stuck, Reader, next, literal, decimal, tab, field, pair}
 use Rattle.paper.specs.Statement.{Written, Pair, ring, input, goal, lin, del, ext, newIndex, namedIndices, fields, within, isRing, isIndex, isVariable, inRange, numbersInRange, tooManyTerms}
 use Rattle.reader.specs.Places.{Got, Fails}
 use Rattle.reader.specs.Fields.{always, fewTerms, Scanned, Scans}
 use Rattle.reader.specs.Lines.{pairRanged, pairFew, morePairs, pairs}
 use Rattle.reader.specs.declared.field.FieldScan.{FieldScan}
 use Rattle.reader.specs.declared.field.FieldScan.the-variants.{Field, Stuck as Stopped}
-use Rattle.reader.proofs.Scans.{got-then, fails-then, fails-first, got-give}
+use Rattle.reader.proofs.Scans.{got-then, fails-then, got-give}
 
 -- ---- one scan as another
 module _ {A B : Type 0} {read : Reader A} {read′ : Reader B} {ranged few : A → Bool} (ranged′ few′ : B → Bool) {s : Bytes} {at at′ : ℕ} (h : A → B) where
@@ -49,31 +49,7 @@ module _ (s : Bytes) (at : ℕ) where
   unfolding tab bytes literal
   tab-end h l = record { reads = rw (drop-of-length-le s h); onward = omega arith; inside = l }
 
-pub number-fails : {s : Bytes} {at p : ℕ} → Fails tab s at p → Fails number s at p
-unfolding number
-number-fails f = fails-first tab _ f
-
-pub number-behind : {ranged : ℕ → Bool} {s : Bytes} {at : ℕ} {r : FieldScan} → Got tab s at tt (at + 1) → Scans decimal ranged always s (at + 1) r → Scans number ranged always s at r
-unfolding number
-number-behind t h = scans-behind tab decimal t h
-
-pub field-fails : {s : Bytes} {at p : ℕ} → Fails tab s at p → Fails field s at p
-unfolding field
-field-fails f = fails-first tab _ f
-
-pub field-behind : {s : Bytes} {at : ℕ} {r : FieldScan} → Got tab s at tt (at + 1) → Scans polynomial inRange fewTerms s (at + 1) r → Scans field inRange fewTerms s at r
-unfolding field
-field-behind t h = scans-behind tab polynomial t h
-
 -- ---- pairs
-pub pair-fails : {s : Bytes} {at p : ℕ} → Fails decimal s at p → Fails pair s at p
-unfolding pair
-pair-fails f = fails-first decimal _ f
-
-pub pair-fails-behind : {s : Bytes} {at i m p : ℕ} → Got decimal s at i m → Fails field s m p → Fails pair s at p
-unfolding pair
-pair-fails-behind g f = fails-then decimal _ g (fails-first field _ f)
-
 pub pair-scans : {s : Bytes} {at m e : ℕ} {a b x y : Bool} → Scanned decimal (within 1 greatestIndex) always s at m a x → Scanned field inRange fewTerms s m e b y
     → Scans pair pairRanged pairFew s at (Field e (a && b) y)
 unfolding pair pairRanged pairFew isIndex
@@ -87,31 +63,18 @@ pair-scans i f =
       };
     }
 
-pub pairs-fails : {s : Bytes} {at p : ℕ} → Fails tab s at p → Fails pairs s at p
-unfolding pairs
-pairs-fails f = fails-first tab _ f
-
-module _ {s : Bytes} {at : ℕ} (t : Got tab s at tt (at + 1)) where
-  pub pairs-fails-first : {p : ℕ} → Fails pair s (at + 1) p → Fails pairs s at p
-  unfolding pairs
-  pairs-fails-first f = fails-then tab _ t (fails-first pair _ f)
-
-  pub pairs-fails-behind : {m p : ℕ} {q : Pair} → Got pair s (at + 1) q m → Fails morePairs s m p → Fails pairs s at p
-  unfolding pairs
-  pairs-fails-behind g f = fails-then tab _ t (fails-then pair _ g (fails-first morePairs _ f))
-
-  pub pairs-scans : {m e : ℕ} {a b x y : Bool} → Scanned pair pairRanged pairFew s (at + 1) m a x → Scanned morePairs (every pairRanged) (every pairFew) s m e b y
-      → Scans pairs (every pairRanged) (every pairFew) s at (Field e (a && b) (x && y))
-  unfolding pairs every
-  pairs-scans q qs =
-      record {
-        said = record {
-          value = q .value ∷ qs .value;
-          taken = got-then tab _ t (got-then pair _ (q .taken) (got-then morePairs _ (qs .taken) (got-give _ (qs .taken .inside))));
-          in-range = ap₂ _&&_ (q .in-range) (qs .in-range);
-          short = ap₂ _&&_ (q .short) (qs .short);
-        };
-      }
+pub pairs-scans : {s : Bytes} {at m e : ℕ} {a b x y : Bool} → Got tab s at tt (at + 1) → Scanned pair pairRanged pairFew s (at + 1) m a x
+    → Scanned morePairs (every pairRanged) (every pairFew) s m e b y → Scans pairs (every pairRanged) (every pairFew) s at (Field e (a && b) (x && y))
+unfolding pairs every
+pairs-scans t q qs =
+    record {
+      said = record {
+        value = q .value ∷ qs .value;
+        taken = got-then tab _ t (got-then pair _ (q .taken) (got-then morePairs _ (qs .taken) (got-give _ (qs .taken .inside))));
+        in-range = ap₂ _&&_ (q .in-range) (qs .in-range);
+        short = ap₂ _&&_ (q .short) (qs .short);
+      };
+    }
 
 -- ---- keywords
 module _ (s w : Bytes) (i : ℕ) (l : i < length w) where

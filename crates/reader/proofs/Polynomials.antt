@@ -1,6 +1,6 @@
 -- Numbers, variables, terms and polynomials as they are scanned. Assumes nothing.
 use mathlib.Core.Path.{_≡_, refl, sym, ap, ap₂, _∙_}
-use mathlib.Core.Bool.{Bool, true, false, _&&_, not, cond}
+use mathlib.Core.Bool.{Bool, true, false, _&&_, cond}
 use mathlib.Core.Logic.{⊎-elim}
 use mathlib.Core.List.{List, [], _∷_, _++_}
 use Prim.Native.Nat.{ℕ, suc, _+_, _-_, _≤_, _<_}
@@ -18,10 +18,10 @@ use Rattle.paper.specs.Grammar.{Bytes, got, decimal, sign, term, asWritten, pol
 use Rattle.paper.proofs.Reading.{takes-term, inField, each-none}
 use Rattle.paper.proofs.Pieces.{isZero, each-empty, term-zero, zero-term}
 use Rattle.paper.specs.Statement.{WrittenTerm, within, isVariable, isTerm, inRange, tooManyTerms}
-use Rattle.reader.specs.Places.{Got, Fails}
+use Rattle.reader.specs.Places.{Got}
 use Rattle.reader.specs.Fields.{moreVariables, moreTerms, always, fewTerms, fewMore, Scanned, Scans, Signed}
 use Rattle.reader.specs.declared.field.FieldScan.the-variants.{Field}
-use Rattle.reader.proofs.Scans.{got-onward, got-then, fails-then, fails-first, got-give}
+use Rattle.reader.proofs.Scans.{got-onward, got-then, got-give}
 
 -- ---- signs
 module _ (s : Bytes) (at : ℕ) where
@@ -46,20 +46,10 @@ variable-range v =
     (λ t. and-both (leb 0 v) (leb v (variables - 1)) (le-leb 0 v (omega arith)) (le-leb v (variables - 1) (omega (arith, ltb-true v variables t))))
 
 -- ---- terms
-module _ {s : Bytes} {at i : ℕ} {negative : Bool} (g : Got sign s at negative i) where
-  pub term-fails : {p : ℕ} → Fails decimal s i p → Fails term s at p
-  unfolding term
-  term-fails h = fails-then sign _ g (fails-first decimal _ h)
-
-  module _ {magnitude j : ℕ} (h : Got decimal s i magnitude j) where
-    pub term-fails-behind : {p : ℕ} → Fails moreVariables s j p → Fails term s at p
-    unfolding term
-    term-fails-behind k = fails-then sign _ g (fails-then decimal _ h (fails-first moreVariables _ k))
-
-    pub term-got : {variables : List ℕ} {e : ℕ} → Got moreVariables s j variables e
-        → Got term s at (record { negative = negative; magnitude = magnitude; variables = variables }) e
-    unfolding term
-    term-got k = got-then sign _ g (got-then decimal _ h (got-then moreVariables _ k (got-give _ (k .inside))))
+pub term-got : {s : Bytes} {at i j e magnitude : ℕ} {negative : Bool} {variables : List ℕ} → Got sign s at negative i → Got decimal s i magnitude j
+    → Got moreVariables s j variables e → Got term s at (record { negative = negative; magnitude = magnitude; variables = variables }) e
+unfolding term
+term-got g h k = got-then sign _ g (got-then decimal _ h (got-then moreVariables _ k (got-give _ (k .inside))))
 
 pub term-scans : {s : Bytes} {at i j e : ℕ} {a b x y : Bool} (sg : Signed s at i) (m : Scanned decimal (within 1 greatestMagnitude) always s i j a x)
     → Scanned moreVariables (every isVariable) always s j e b y → Scans term isTerm always s at (Field e (a && b) true)
@@ -70,10 +60,6 @@ term-scans sg m vs =
     }
 
 -- ---- polynomials
-pub polynomial-fails : {s : Bytes} {at p : ℕ} → Fails term s at p → Fails polynomial s at p
-unfolding polynomial
-polynomial-fails h = fails-first term _ h
-
 few-more : (t : WrittenTerm) (ts : List WrittenTerm) → fewMore ts ≡ fewTerms (t ∷ ts)
 unfolding fewMore fewTerms tooManyTerms
 few-more t ts =
@@ -89,47 +75,42 @@ few-count ts n e = ap (λ (k : ℕ). ltb k fieldTerms) e
 pub count-more : (ts : List WrittenTerm) (t : WrittenTerm) (n : ℕ) → n ≡ length ts → n + 1 ≡ length (ts ++ (t ∷ []))
 count-more ts t n e = omega (arith, length-append ts (t ∷ []))
 
-module _ {s : Bytes} {at i : ℕ} {t : WrittenTerm} (g : Got term s at t i) where
-  pub polynomial-fails-behind : {p : ℕ} → Fails moreTerms s i p → Fails polynomial s at p
+module _ {s : Bytes} {at i e : ℕ} {t : WrittenTerm} {ts : List WrittenTerm} (g : Got term s at t i) (h : Got moreTerms s i ts e) where
+  polynomial-got : Got polynomial s at (asWritten t ts) e
   unfolding polynomial
-  polynomial-fails-behind h = fails-then term _ g (fails-first moreTerms _ h)
+  polynomial-got = got-then term _ g (got-then moreTerms _ h (got-give _ (h .inside)))
 
-  module _ {ts : List WrittenTerm} {e : ℕ} (h : Got moreTerms s i ts e) where
-    polynomial-got : Got polynomial s at (asWritten t ts) e
-    unfolding polynomial
-    polynomial-got = got-then term _ g (got-then moreTerms _ h (got-give _ (h .inside)))
+  -- the field is `0`
+  as-zero : e ≡ at + 1 → getD s at 0 ≡ 48 → asWritten t ts ≡ []
+  unfolding asWritten inField
+  as-zero q b =
+      let n = got-onward term takes-term g in
+      let l : at < length s = omega (arith, g .inside) in
+      let o = h .onward in
+      let ei : e ≡ i = omega (arith, length-drop at s, length-drop i s) in
+      let ia : i ≡ suc at = omega (arith, add-one at) in
+      let none = each-none (code " ") term takes-term refl (drop i s) ts (h .reads ∙ ap (λ (k : ℕ). got ts (drop k s)) ei) in
+      let d : code "0" ∷ drop (suc at) s ≡ drop at s = sym (drop-cons s at 0 l ∙ ap (λ (x : ℕ). x ∷ drop (suc at) s) b) in
+      let zero = zero-term (drop (suc at) s) t (ap term d ∙ g .reads ∙ ap (λ (k : ℕ). got t (drop k s)) ia) in
+      ap (asWritten t) none ∙ ap (λ (z : Bool). cond z [] (t ∷ [])) zero
 
-    -- the field is `0`
-    as-zero : e ≡ at + 1 → getD s at 0 ≡ 48 → asWritten t ts ≡ []
-    unfolding asWritten inField
-    as-zero q b =
-        let l : at < length s = omega (arith, got-onward term takes-term g, g .inside) in
-        let n = got-onward term takes-term g in
-        let o = h .onward in
-        let ei : e ≡ i = omega (arith, length-drop at s, length-drop i s) in
-        let ia : i ≡ suc at = omega (arith, add-one at) in
-        let none = each-none (code " ") term takes-term refl (drop i s) ts (h .reads ∙ ap (λ (k : ℕ). got ts (drop k s)) ei) in
-        let d : code "0" ∷ drop (suc at) s ≡ drop at s = sym (drop-cons s at 0 l ∙ ap (λ (x : ℕ). x ∷ drop (suc at) s) b) in
-        let zero = zero-term (drop (suc at) s) t (ap term d ∙ g .reads ∙ ap (λ (k : ℕ). got t (drop k s)) ia) in
-        ap (asWritten t) none ∙ ap (λ (z : Bool). cond z [] (t ∷ [])) zero
+  -- the field is not `0`
+  as-terms : (e ≡ at + 1 → getD s at 0 ≡ 48 → ⊥) → asWritten t ts ≡ t ∷ ts
+  unfolding asWritten
+  as-terms q = go ts (h .reads)
+    where
+      one : term (drop at s) ≡ got t (drop i s) → i ≤ length s → moreTerms (drop i s) ≡ got [] (drop e s) → isZero t ≡ true → ⊥
+      one r k m z =
+          let d = term-zero (drop at s) t (drop i s) r z in
+          let c = drop-cons s at 0 (omega (arith, got-onward term takes-term g)) in
+          let o = h .inside in
+          let b : getD s at 0 ≡ 48 = cc in
+          q (omega (arith, ap length (each-empty (code " ") term (drop i s) (drop e s) m), ap length d, length-drop at s, length-drop i s, length-drop e s)) b
 
-    -- the field is not `0`
-    as-terms : (e ≡ at + 1 → getD s at 0 ≡ 48 → ⊥) → asWritten t ts ≡ t ∷ ts
-    unfolding asWritten
-    as-terms q = go ts (h .reads)
-      where
-        one : term (drop at s) ≡ got t (drop i s) → i ≤ length s → moreTerms (drop i s) ≡ got [] (drop e s) → isZero t ≡ true → ⊥
-        one r k m z =
-            let d = term-zero (drop at s) t (drop i s) r z in
-            let c = drop-cons s at 0 (omega (arith, got-onward term takes-term g)) in
-            let o = h .inside in
-            let b : getD s at 0 ≡ 48 = cc in
-            q (omega (arith, ap length (each-empty (code " ") term (drop i s) (drop e s) m), ap length d, length-drop at s, length-drop i s, length-drop e s)) b
-
-        go : (us : List WrittenTerm) → moreTerms (drop i s) ≡ got us (drop e s) → asWritten t us ≡ t ∷ us
-        go (u ∷ us) m = refl
-        go [] m =
-            ⊎-elim (λ z. absurd (one (g .reads) (g .inside) m z)) (λ z. ap (λ (z : Bool). cond z [] (t ∷ [])) z) (split (isZero t))
+      go : (us : List WrittenTerm) → moreTerms (drop i s) ≡ got us (drop e s) → asWritten t us ≡ t ∷ us
+      go (u ∷ us) m = refl
+      go [] m =
+          ⊎-elim (λ z. absurd (one (g .reads) (g .inside) m z)) (λ z. ap (λ (z : Bool). cond z [] (t ∷ [])) z) (split (isZero t))
 
 module _ {s : Bytes} {at i e : ℕ} {a b x y : Bool} (t : Scanned term isTerm always s at i a x) (ts : Scanned moreTerms (every isTerm) fewMore s i e b y) where
   pub zero-scans : e ≡ at + 1 → getD s at 0 ≡ 48 → Scans polynomial inRange fewTerms s at (Field e true true)

@@ -102,7 +102,7 @@ pub fn put_index(column: &mut Indices, at: usize, x: u32)
     column[at] = x;
 }
 
-// Takes the j-th of the first n numbers out of a column: those behind it move one place down, each lowered by fall.
+// Takes the j-th of the first n numbers out of a column and gives it: those behind it move one place down, each lowered by fall.
 // The length is asked for because a proof does not see it through a reference.
 pub fn close(column: &mut Column, j: usize, n: usize, fall: u16) -> u16
     requires { ⌜ (length (now column) ≡ storedPolynomials) × Closable (now column) j n fall ⌝ }

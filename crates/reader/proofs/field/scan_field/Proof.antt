@@ -1,8 +1,10 @@
 -- `reader::field::scan_field` meets its contract: a first term and those behind it, or the field `0`. No loop.
 -- Assumes nothing.
 use native.Mathlib.Omega.{arith}
-use Rattle.reader.proofs.Scans.{scanned, pass-on}
-use Rattle.reader.proofs.Polynomials.{polynomial-fails, polynomial-fails-behind, zero-scans, terms-scans}
+use Rattle.paper.specs.Grammar.{term, polynomial}
+use Rattle.reader.specs.Fields.{moreTerms}
+use Rattle.reader.proofs.Scans.{fails-then, fails-first, scanned, pass-on}
+use Rattle.reader.proofs.Polynomials.{zero-scans, terms-scans}
 use borrow.Author.Needs.{needs}
 use Rattle.reader.proofs.field.scan_field.Statement.{statement}
 use Rattle.reader.proofs.field.scan_field.Tie as tie
@@ -17,7 +19,8 @@ enum-told : tie.Need-enum-told
 enum-told c = search needs
 
 returns : tie.Need-returns
-returns c = pass-on (c .before .before .scan-term .ensures) (c .enum-told .given .1) polynomial-fails
+unfolding polynomial
+returns c = pass-on (c .before .before .scan-term .ensures) (c .enum-told .given .1) (λ f. fails-first term _ f)
 
 scan-terms-requires : tie.Need-scan-terms-requires
 scan-terms-requires c κs = scanned (c .before .before .before .scan-term .ensures) (c .before .t .given .1) .taken .inside
@@ -29,9 +32,10 @@ enum-told-2 : tie.Need-enum-told-2
 enum-told-2 c = search needs
 
 returns-2 : tie.Need-returns-2
+unfolding polynomial
 returns-2 c =
     let t = scanned (c .before .before .before .before .before .before .scan-term .ensures) (c .before .before .before .before .t .given .1) in
-    pass-on (c .before .before .scan-terms .ensures) (c .enum-told2 .given .1) (λ f. polynomial-fails-behind (t .taken) f)
+    pass-on (c .before .before .scan-terms .ensures) (c .enum-told2 .given .1) (λ f. fails-then term _ (t .taken) (fails-first moreTerms _ f))
 
 both-requires : tie.Need-both-requires
 both-requires c κs = search needs

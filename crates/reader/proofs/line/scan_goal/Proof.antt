@@ -1,9 +1,8 @@
 -- `reader::line::scan_goal` meets its contract: a keyword and a polynomial in a row. No loop.
 -- Assumes nothing.
-use Rattle.paper.specs.Grammar.{bytes}
-use Rattle.reader.specs.Lines.{goals}
-use Rattle.reader.proofs.Scans.{scanned, pass-on}
-use Rattle.reader.proofs.LineKinds.{behind-fails, goal-scans}
+use Rattle.paper.specs.Grammar.{bytes, literal}
+use Rattle.reader.proofs.Scans.{fails-first, scanned, pass-on}
+use Rattle.reader.proofs.LineKinds.{goal-scans}
 use borrow.Author.Needs.{needs}
 use Rattle.reader.proofs.line.scan_goal.Statement.{statement}
 use Rattle.reader.proofs.line.scan_goal.Tie as tie
@@ -22,7 +21,7 @@ enum-told c = search needs
 
 returns : tie.Need-returns
 unfolding bytes
-returns c = pass-on (c .before .before .keyword .ensures) (c .enum-told .given .1) (λ f. behind-fails (bytes "goal") (goals .1) f)
+returns c = pass-on (c .before .before .keyword .ensures) (c .enum-told .given .1) (λ f. fails-first (literal (bytes "goal")) _ f)
 
 tab-field-requires : tie.Need-tab-field-requires
 tab-field-requires c κs = scanned (c .before .before .before .keyword .ensures) (c .before .k .given .1) .taken .inside

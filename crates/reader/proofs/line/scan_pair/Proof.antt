@@ -1,7 +1,8 @@
 -- `reader::line::scan_pair` meets its contract: an index and a factor in a row. No loop.
 -- Assumes nothing.
-use Rattle.reader.proofs.Scans.{scanned, pass-on}
-use Rattle.reader.proofs.Lines.{pair-fails, pair-fails-behind, pair-scans}
+use Rattle.paper.specs.Grammar.{decimal, field, pair}
+use Rattle.reader.proofs.Scans.{fails-then, fails-first, scanned, pass-on}
+use Rattle.reader.proofs.Lines.{pair-scans}
 use borrow.Author.Needs.{needs}
 use Rattle.reader.proofs.line.scan_pair.Statement.{statement}
 use Rattle.reader.proofs.line.scan_pair.Tie as tie
@@ -16,7 +17,8 @@ enum-told : tie.Need-enum-told
 enum-told c = search needs
 
 returns : tie.Need-returns
-returns c = pass-on (c .before .before .scan-number .ensures) (c .enum-told .given .1) pair-fails
+unfolding pair
+returns c = pass-on (c .before .before .scan-number .ensures) (c .enum-told .given .1) (λ f. fails-first decimal _ f)
 
 tab-field-requires : tie.Need-tab-field-requires
 tab-field-requires c κs = scanned (c .before .before .before .scan-number .ensures) (c .before .i .given .1) .taken .inside
@@ -28,9 +30,10 @@ enum-told-2 : tie.Need-enum-told-2
 enum-told-2 c = search needs
 
 returns-2 : tie.Need-returns-2
+unfolding pair
 returns-2 c =
     let i = scanned (c .before .before .before .before .before .before .scan-number .ensures) (c .before .before .before .before .i .given .1) in
-    pass-on (c .before .before .tab-field .ensures) (c .enum-told2 .given .1) (λ f. pair-fails-behind (i .taken) f)
+    pass-on (c .before .before .tab-field .ensures) (c .enum-told2 .given .1) (λ f. fails-then decimal _ (i .taken) (fails-first field _ f))
 
 both-requires : tie.Need-both-requires
 both-requires c κs = search needs

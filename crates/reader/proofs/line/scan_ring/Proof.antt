@@ -1,9 +1,8 @@
 -- `reader::line::scan_ring` meets its contract: a keyword and a number in a row. No loop.
 -- Assumes nothing.
-use Rattle.paper.specs.Grammar.{bytes}
-use Rattle.reader.specs.Lines.{rings}
-use Rattle.reader.proofs.Scans.{scanned, pass-on}
-use Rattle.reader.proofs.LineKinds.{behind-fails, ring-scans}
+use Rattle.paper.specs.Grammar.{bytes, literal}
+use Rattle.reader.proofs.Scans.{fails-first, scanned, pass-on}
+use Rattle.reader.proofs.LineKinds.{ring-scans}
 use borrow.Author.Needs.{needs}
 use Rattle.reader.proofs.line.scan_ring.Statement.{statement}
 use Rattle.reader.proofs.line.scan_ring.Tie as tie
@@ -22,7 +21,7 @@ enum-told c = search needs
 
 returns : tie.Need-returns
 unfolding bytes
-returns c = pass-on (c .before .before .keyword .ensures) (c .enum-told .given .1) (λ f. behind-fails (bytes "ring") (rings .1) f)
+returns c = pass-on (c .before .before .keyword .ensures) (c .enum-told .given .1) (λ f. fails-first (literal (bytes "ring")) _ f)
 
 tab-number-requires : tie.Need-tab-number-requires
 tab-number-requires c κs = scanned (c .before .before .before .keyword .ensures) (c .before .k .given .1) .taken .inside

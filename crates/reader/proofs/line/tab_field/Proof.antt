@@ -1,19 +1,23 @@
 -- `reader::line::tab_field` meets its contract: a tab and a polynomial in a row. No loop.
 -- Assumes nothing.
 use native.Mathlib.Omega.{arith}
-use Rattle.reader.proofs.Lines.{tab-here, tab-not, tab-end, field-fails, field-behind}
+use Rattle.paper.specs.Grammar.{polynomial, tab, field}
+use Rattle.reader.proofs.Scans.{fails-first}
+use Rattle.reader.proofs.Lines.{scans-behind, tab-here, tab-not, tab-end}
 use borrow.Author.Needs.{needs}
 use Rattle.reader.proofs.line.tab_field.Statement.{statement}
 use Rattle.reader.proofs.line.tab_field.Tie as tie
 
 returns : tie.Need-returns
-returns c = let a = c .before .before .args in record { said = field-fails (tab-end (a .s .now) (a .at) (omega arith) (omega arith)) }
+unfolding field
+returns c = let a = c .before .before .args in record { said = fails-first tab _ (tab-end (a .s .now) (a .at) (omega arith) (omega arith)) }
 
 shared-slice-read-if2 : tie.Need-shared-slice-read-if2
 shared-slice-read-if2 c = search needs
 
 returns-2 : tie.Need-returns-2
-returns-2 c = let a = c .before .before .before .before .args in record { said = field-fails (tab-not (a .s .now) (a .at) (omega arith) (c .if2 .taken)) }
+unfolding field
+returns-2 c = let a = c .before .before .before .before .args in record { said = fails-first tab _ (tab-not (a .s .now) (a .at) (omega arith) (c .if2 .taken)) }
 
 add-scan-field : tie.Need-add-scan-field
 add-scan-field c = search needs
@@ -22,7 +26,8 @@ scan-field-requires : tie.Need-scan-field-requires
 scan-field-requires c κs = search needs
 
 returns-3 : tie.Need-returns-3
-returns-3 c = let a = c .before .before .before .before .before .args in field-behind (tab-here (a .s .now) (a .at) (omega arith) (c .before .if2 .left)) (c .scan-field .ensures)
+unfolding field
+returns-3 c = let a = c .before .before .before .before .before .args in scans-behind tab polynomial (tab-here (a .s .now) (a .at) (omega arith) (c .before .if2 .left)) (c .scan-field .ensures)
 
 pub tab-field-spec : {M : Type 1} → statement M
 tab-field-spec =

@@ -1,19 +1,23 @@
 -- `reader::line::tab_number` meets its contract: a tab and a decimal in a row. No loop.
 -- Assumes nothing.
 use native.Mathlib.Omega.{arith}
-use Rattle.reader.proofs.Lines.{tab-here, tab-not, tab-end, number-fails, number-behind}
+use Rattle.paper.specs.Grammar.{decimal, tab, number}
+use Rattle.reader.proofs.Scans.{fails-first}
+use Rattle.reader.proofs.Lines.{scans-behind, tab-here, tab-not, tab-end}
 use borrow.Author.Needs.{needs}
 use Rattle.reader.proofs.line.tab_number.Statement.{statement}
 use Rattle.reader.proofs.line.tab_number.Tie as tie
 
 returns : tie.Need-returns
-returns c = let a = c .before .before .args in record { said = number-fails (tab-end (a .s .now) (a .at) (omega arith) (omega arith)) }
+unfolding number
+returns c = let a = c .before .before .args in record { said = fails-first tab _ (tab-end (a .s .now) (a .at) (omega arith) (omega arith)) }
 
 shared-slice-read-if2 : tie.Need-shared-slice-read-if2
 shared-slice-read-if2 c = search needs
 
 returns-2 : tie.Need-returns-2
-returns-2 c = let a = c .before .before .before .before .args in record { said = number-fails (tab-not (a .s .now) (a .at) (omega arith) (c .if2 .taken)) }
+unfolding number
+returns-2 c = let a = c .before .before .before .before .args in record { said = fails-first tab _ (tab-not (a .s .now) (a .at) (omega arith) (c .if2 .taken)) }
 
 add-scan-number : tie.Need-add-scan-number
 add-scan-number c = search needs
@@ -22,7 +26,8 @@ scan-number-requires : tie.Need-scan-number-requires
 scan-number-requires c κs = search needs
 
 returns-3 : tie.Need-returns-3
-returns-3 c = let a = c .before .before .before .before .before .args in number-behind (tab-here (a .s .now) (a .at) (omega arith) (c .before .if2 .left)) (c .scan-number .ensures)
+unfolding number
+returns-3 c = let a = c .before .before .before .before .before .args in scans-behind tab decimal (tab-here (a .s .now) (a .at) (omega arith) (c .before .if2 .left)) (c .scan-number .ensures)
 
 pub tab-number-spec : {M : Type 1} → statement M
 tab-number-spec =
