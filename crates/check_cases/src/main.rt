@@ -7,8 +7,10 @@ ghost use lib.ListN.{length};
 use libc::STDIN_FILENO;
 use libc::STDOUT_FILENO;
 
+// The longest text that a case can have: a few bytes more than the checker takes.
 const MOST_TEXT: usize = 1048580;
 
+// The most words of a room that a case can have.
 const MOST_ROOM: usize = 8192;
 
 // What every word of the rooms is before a check.
@@ -161,14 +163,21 @@ fn case(input: &[u8], at: usize, text: &mut [u8], pool: &mut [u64], scratch: &mu
     t.next
 }
 
+// Answers the cases of an input.
+fn cases(input: &[u8], text: &mut [u8], pool: &mut [u64], scratch: &mut [u64])
+    requires { ⌜ (length (now input) ≤ 65536) × (8192 ≤ length (now pool)) × (8192 ≤ length (now scratch)) ⌝ }
+{
+    let mut at = 0;
+    while at < input.len() {
+        at = case(input, at, text, pool, scratch);
+    }
+}
+
 fn main() {
     let mut input = [0u8; 65536];
     let n = io::read_full(STDIN_FILENO, &mut input);
     let mut text = [0u8; MOST_TEXT];
     let mut pool = [0u64; MOST_ROOM];
     let mut scratch = [0u64; MOST_ROOM];
-    let mut at = 0;
-    while at < n {
-        at = case(&input[..n], at, &mut text, &mut pool, &mut scratch);
-    }
+    cases(&input[..n], &mut text, &mut pool, &mut scratch);
 }
