@@ -11,7 +11,7 @@ use lib.ListN.{length, drop, getD, length-drop, drop-of-length-le}
 use lib.Seq.{drop-cons, drop-drop}
 use borrow.Author.Tests.{ltb-true, ltb-false, lt-ltb, eqb-true, eqb-false, leb-true}
 use Rattle.ground.specs.Lists.{every}
-use Rattle.ground.proofs.Tests.{split, and-left, and-right, and-both}
+use Rattle.ground.proofs.Tests.{split, and-left, and-right}
 use Rattle.limits.specs.Limits.{greatestIndex}
 use Rattle.paper.specs.Grammar.{Bytes, bytes, Read, got, stuck, each, decimal, polynomial, tab, field, pair}
 use Rattle.paper.specs.Statement.{Written, Pair, isIndex, inRange}
@@ -22,6 +22,7 @@ use Rattle.reader.specs.Lines.{pairRanged, pairFew, morePairs}
 use Rattle.reader.specs.Search.{EndsField, WholeField}
 use Rattle.reader.proofs.Fields.{placed, same-end}
 use Rattle.fields.specs.Fields.{Good, isWord, isField}
+use Rattle.fields.proofs.Ranges.{is-field}
 use Rattle.fields.proofs.Taking.{same-value, same-rest, not-both}
 use Rattle.pairs.specs.Pairs.{isSmall, PairsAt}
 
@@ -75,11 +76,11 @@ pub record Next (s : Bytes) (at : ℕ) (qs : List Pair) : Type 0 where
 
 -- what a pair in front of others, and these, are checked to be
 head-ranged : (q : Pair) (qs : List Pair) → every pairRanged (q ∷ qs) ≡ true → every pairFew (q ∷ qs) ≡ true → (isIndex (q .index) ≡ true) × (isField (q .factor) ≡ true)
-unfolding every pairRanged pairFew isField
+unfolding every pairRanged pairFew
 head-ranged q qs e f =
     let a = and-left (isIndex (q .index) && inRange (q .factor)) (every pairRanged qs) e in (
       and-left (isIndex (q .index)) (inRange (q .factor)) a,
-      and-both (inRange (q .factor)) (fewTerms (q .factor)) (and-right (isIndex (q .index)) (inRange (q .factor)) a) (and-left (fewTerms (q .factor)) (every pairFew qs) f),
+      is-field (q .factor) (and-right (isIndex (q .index)) (inRange (q .factor)) a) (and-left (fewTerms (q .factor)) (every pairFew qs) f),
     )
 
 tail-every : (f : Pair → Bool) (q : Pair) (qs : List Pair) → every f (q ∷ qs) ≡ true → every f qs ≡ true

@@ -9,7 +9,7 @@ use lib.Dec.{leb}
 use lib.ListN.{length, drop, length-drop}
 use borrow.Author.Tests.{leb-true, le-leb}
 use Rattle.ground.specs.Lists.{every, any}
-use Rattle.ground.proofs.Tests.{and-left, and-right, and-both}
+use Rattle.ground.proofs.Tests.{and-left, and-right}
 use Rattle.limits.specs.Limits.{variables, greatestRing, greatestIndex}
 use Rattle.paper.specs.Grammar.{Bytes, Reader, got, decimal, polynomial, statement}
 use Rattle.paper.specs.Statement.{Written, Pair, Statement, ring, input, goal, lin, del, ext, fields, within, isRing, isIndex, isVariable, inRange, numbersInRange, tooManyTerms}
@@ -21,6 +21,7 @@ use Rattle.reader.specs.declared.line.Kind.the-variants.{Ring, Input, Goal, Lin
 use Rattle.reader.proofs.Fields.{Tabbed, FieldsAt, fields-at}
 use Rattle.reader.proofs.Lines.{ranged-ring, ranged-input, ranged-goal, ranged-lin, ranged-del, ranged-ext, few-one, few-lin}
 use Rattle.fields.specs.Fields.{Good, isField}
+use Rattle.fields.proofs.Ranges.{is-field}
 use Rattle.fields.proofs.Taking.{is-variable}
 use Rattle.pairs.specs.Pairs.{isSmall, PairsAt}
 use Rattle.pairs.proofs.Walking.{small-index}
@@ -71,10 +72,6 @@ ring-range k e =
 
 one-short : (p : Written) → any tooManyTerms (p ∷ []) ≡ false → fewTerms p ≡ true
 one-short p e = few-one p ∙ ap not e
-
-is-field : (p : Written) → inRange p ≡ true → fewTerms p ≡ true → isField p ≡ true
-unfolding isField
-is-field p r f = and-both (inRange p) (fewTerms p) r f
 
 -- ---- places
 -- what a reading behind a tab gives
