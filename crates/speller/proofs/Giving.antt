@@ -17,7 +17,7 @@ use Rattle.terms.specs.Terms.{none, decode, Leaves}
 use Rattle.paper.specs.Grammar.{Bytes, polynomial}
 use Rattle.paper.specs.Statement.{asTerm, reduced}
 use Rattle.paper.specs.Spelling.{Spelled, refuse, spell, spellRead, wholeField, spellField, outputAfter, scratchAfter}
-use Rattle.paper.proofs.Ranges.{cond-yes, cond-no}
+use Rattle.paper.proofs.Ranges.{ring-most, cond-yes, cond-no}
 use Rattle.fields.specs.Worded.{worded}
 use Rattle.fields.specs.Fields.{Good, isField, FieldAt}
 use Rattle.fields.specs.declared.FieldRun.{FieldRun}
@@ -27,7 +27,7 @@ use Rattle.fields.proofs.Meaning.{worded-reduced}
 use Rattle.writer.specs.Writing.{written, Wrote, Cut}
 use Rattle.speller.specs.Spells.{Gives, Spells, fitted, Accepts, Holds}
 use Rattle.speller.specs.declared.Spelled.{Spelled as Answer}
-use Rattle.speller.proofs.Judging.{ring-most, accepted-fitted, not-short}
+use Rattle.speller.proofs.Judging.{accepted-fitted, not-short}
 
 -- ---- refused, or written
 pub gives-as : {x y : Spelled} {out out′ : Bytes} {r : Answer} → x ≡ y → Gives x out out′ r → Gives y out out′ r

@@ -4,10 +4,10 @@ use mathlib.Core.Bool.{Bool, true, false, _&&_, not, cond, and-false}
 use mathlib.Core.List.{[], _∷_}
 use Prim.Native.Nat.{ℕ, _≤_, _<_}
 use native.Mathlib.Omega.{arith}
-use lib.Dec.{eqb, leb, ltb}
+use lib.Dec.{eqb, ltb}
 use lib.ListN.{length, drop, length-drop, drop-of-length-le}
-use borrow.Author.Tests.{leb-true, not-false}
-use Rattle.ground.proofs.Tests.{by-cond, and-left, and-right, and-both}
+use borrow.Author.Tests.{not-false}
+use Rattle.ground.proofs.Tests.{by-cond, and-both}
 use Rattle.limits.specs.Limits.{greatestRing}
 use Rattle.limits.specs.Verdicts.{ACCEPTED, SHORT, FORM, NUMBER, TERMS, FULL}
 use Rattle.paper.specs.Grammar.{Bytes, Read, got, stuck, next, end, polynomial}
@@ -34,14 +34,6 @@ module _ (k : ℕ) where
   pub ring-inside : 1 ≤ k → k ≤ greatestRing → isRing k ≡ true
   unfolding isRing
   ring-inside h l = within-yes 1 greatestRing k h l
-
-  pub ring-some : isRing k ≡ true → 1 ≤ k
-  unfolding isRing
-  ring-some e = leb-true 1 k (and-left (leb 1 k) (leb k greatestRing) e)
-
-  pub ring-most : isRing k ≡ true → k ≤ greatestRing
-  unfolding isRing
-  ring-most e = leb-true k greatestRing (and-right (leb 1 k) (leb k greatestRing) e)
 
 -- ---- the whole field
 whole-stuck : (s t : Bytes) → polynomial s ≡ stuck t → wholeField s ≡ stuck t

@@ -5,14 +5,14 @@ use mathlib.Core.Bool.{Bool, true, false, _&&_, not}
 use mathlib.Core.List.{List, [], _∷_}
 use Prim.Native.Nat.{ℕ, _+_, _≤_, _<_}
 use native.Mathlib.Omega.{arith}
-use lib.Dec.{leb}
 use lib.ListN.{length, drop, length-drop}
-use borrow.Author.Tests.{leb-true, le-leb}
+use borrow.Author.Tests.{le-leb}
 use Rattle.ground.specs.Lists.{every, any}
 use Rattle.ground.proofs.Tests.{and-left, and-right}
 use Rattle.limits.specs.Limits.{variables, greatestRing, greatestIndex}
 use Rattle.paper.specs.Grammar.{Bytes, Reader, got, decimal, polynomial, statement}
-use Rattle.paper.specs.Statement.{Written, Pair, Statement, ring, input, goal, lin, del, ext, fields, within, isRing, isIndex, isVariable, inRange, numbersInRange, tooManyTerms}
+use Rattle.paper.specs.Statement.{Written, Pair, Statement, ring, input, goal, lin, del, ext, fields, isRing, isIndex, isVariable, inRange, numbersInRange, tooManyTerms}
+use Rattle.paper.proofs.Ranges.{ring-some, ring-most}
 use Rattle.reader.specs.Places.{Got}
 use Rattle.reader.specs.Fields.{fewTerms}
 use Rattle.reader.specs.Lines.{morePairs, pairRanged, pairFew, kindOf}
@@ -57,8 +57,8 @@ said {line} h =
 
 -- ---- tests of what is read
 small-ring : (k : ℕ) → isRing k ≡ true → isSmall k ≡ true
-unfolding isRing isSmall
-small-ring k e = let l : k ≤ greatestRing = leb-true k greatestRing (and-right (leb 1 k) (leb k greatestRing) e) in le-leb k greatestIndex (omega arith)
+unfolding isSmall
+small-ring k e = let l = ring-most k e in le-leb k greatestIndex (omega arith)
 
 small-variable : (v : ℕ) → isVariable v ≡ true → isSmall v ≡ true
 unfolding isSmall
@@ -67,8 +67,8 @@ small-variable v e = let l = is-variable v e in le-leb v greatestIndex (omega ar
 pub ring-range : (k : ℕ) → numbersInRange (ring k) ≡ true → (1 ≤ k) × (k ≤ greatestRing)
 unfolding isRing
 ring-range k e =
-    let t : within 1 greatestRing k ≡ true = ranged-ring k ∙ e in
-    (leb-true 1 k (and-left (leb 1 k) (leb k greatestRing) t), leb-true k greatestRing (and-right (leb 1 k) (leb k greatestRing) t))
+    let t : isRing k ≡ true = ranged-ring k ∙ e in
+    (ring-some k t, ring-most k t)
 
 one-short : (p : Written) → any tooManyTerms (p ∷ []) ≡ false → fewTerms p ≡ true
 one-short p e = few-one p ∙ ap not e
