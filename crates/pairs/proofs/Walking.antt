@@ -3,16 +3,15 @@ use mathlib.Core.Path.{_≡_, refl, sym, ap, _∙_, subst}
 use mathlib.Core.Bool.{Bool, true, _&&_}
 use mathlib.Core.Logic.{⊎-elim}
 use mathlib.Core.List.{List, [], _∷_}
-use Prim.Native.Nat.{ℕ, _+_, _^_, _≤_, _<_}
+use Prim.Native.Nat.{ℕ, _+_, _≤_, _<_}
 use Prim.Native.Char.{code}
 use native.Mathlib.Omega.{arith}
-use lib.Dec.{eqb, ltb, leb}
+use lib.Dec.{eqb, ltb}
 use lib.ListN.{length, drop, getD, length-drop, drop-of-length-le}
 use lib.Seq.{drop-cons, drop-drop}
-use borrow.Author.Tests.{ltb-true, ltb-false, lt-ltb, eqb-true, eqb-false, leb-true}
+use borrow.Author.Tests.{ltb-true, ltb-false, eqb-true, eqb-false}
 use Rattle.ground.specs.Lists.{every}
 use Rattle.ground.proofs.Tests.{split, and-left, and-right}
-use Rattle.limits.specs.Limits.{greatestIndex}
 use Rattle.paper.specs.Grammar.{Bytes, bytes, Read, got, stuck, each, decimal, polynomial, tab, field, pair}
 use Rattle.paper.specs.Statement.{Written, Pair, isIndex, inRange}
 use Rattle.paper.proofs.Reading.{parted, takes-decimal, takes-polynomial, takes-pair, literal-inside, each-more, each-stuck, each-stop, each-end}
@@ -21,10 +20,10 @@ use Rattle.reader.specs.Fields.{fewTerms}
 use Rattle.reader.specs.Lines.{pairRanged, pairFew, morePairs}
 use Rattle.reader.specs.Search.{EndsField, WholeField}
 use Rattle.reader.proofs.Fields.{placed, same-end}
-use Rattle.fields.specs.Fields.{Good, isWord, isField}
-use Rattle.fields.proofs.Ranges.{is-field}
+use Rattle.fields.specs.Fields.{Good, isSmall, isField}
+use Rattle.fields.proofs.Ranges.{small-index, is-field}
 use Rattle.fields.proofs.Taking.{same-value, same-rest, not-both}
-use Rattle.pairs.specs.Pairs.{isSmall, PairsAt}
+use Rattle.pairs.specs.Pairs.{PairsAt}
 
 -- ---- a pair taken apart
 pub record PairParts (s : Bytes) (at : ℕ) (q : Pair) (e : ℕ) : Type 0 where
@@ -134,22 +133,6 @@ module _ {s : Bytes} {at : ℕ} {qs : List Pair} (w : PairsAt s at qs) where
 
 pub same-pairs : {s : Bytes} {at : ℕ} {qs rs : List Pair} → PairsAt s at qs → PairsAt s at rs → qs ≡ rs
 same-pairs w v = same-value (w .reads) (v .reads)
-
--- ---- numbers that half a word holds
-pub small-index : (i : ℕ) → isIndex i ≡ true → isSmall i ≡ true
-unfolding isIndex isSmall
-small-index i e = and-right (leb 1 i) (leb i greatestIndex) e
-
-is-small : (n : ℕ) → isSmall n ≡ true → n ≤ greatestIndex
-unfolding isSmall
-is-small n e = leb-true n greatestIndex e
-
-pub small-word : (n : ℕ) → isSmall n ≡ true → isWord n ≡ true
-unfolding isWord
-small-word n e = let l = is-small n e in lt-ltb n (2 ^ 64) (omega arith)
-
-pub small-got : {s : Bytes} {at n e : ℕ} → Good decimal isSmall s at → Got decimal s at n e → n ≤ greatestIndex
-small-got {n = n} g t = let e : g .value ≡ n = same-value (g .reads) (t .reads) in omega (arith, is-small (g .value) (g .passes))
 
 -- ---- what the readers of an index and of a factor ask for
 module _ {s : Bytes} {at : ℕ} {qs : List Pair} (n : Next s at qs) where

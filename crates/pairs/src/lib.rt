@@ -10,12 +10,10 @@ ghost use Rattle.algebra.specs.Polynomial.{products};
 ghost use Rattle.words.specs.Words.{number};
 ghost use Rattle.terms.specs.Terms.{decode, rounded, Appended};
 ghost use Rattle.paper.specs.Statement.{Pair};
-ghost use Rattle.paper.specs.Grammar.{decimal};
-ghost use Rattle.reader.specs.Places.{Got};
-ghost use Rattle.fields.specs.Fields.{Good};
 ghost use Rattle.table.specs.Table.{polyAt, firsts, entryAt};
 ghost use Rattle.regions.specs.Regions.{factorAt, goalAt};
-ghost use Rattle.pairs.specs.Pairs.{isSmall, PairsAt, PoolHolds, allStored, Summed, Lies, Extended, PairAdded};
+ghost use Rattle.pairs.specs.Pairs.{PairsAt, PoolHolds, allStored, Summed, Lies, Extended, PairAdded};
+use fields::small_at;
 use table::Column;
 use table::Found;
 use table::Indices;
@@ -32,24 +30,6 @@ pub struct Sum {
 struct Added {
     sum: Sum,
     end: usize,
-}
-
-// A number that half a word holds, and its end.
-pub struct Small {
-    pub value: u32,
-    pub end: usize,
-}
-
-// The number at at: an index, a ring or a variable.
-pub fn small_at(line: &[u8], at: usize) -> Small
-    requires { ⌜ Good decimal isSmall (now line) at ⌝ }
-    ensures { λ r. ⌜ Got decimal (now (line .entry)) at (r .value) (r .end) ⌝ }
-{
-    let d = fields::take_decimal(line, at);
-    Small {
-        value: d.value as u32,
-        end: d.end,
-    }
 }
 
 // Whether every pair from the tab at at on names one of the first n indices of a column.

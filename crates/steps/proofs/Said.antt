@@ -6,10 +6,9 @@ use mathlib.Core.List.{List, [], _∷_}
 use Prim.Native.Nat.{ℕ, _+_, _≤_, _<_}
 use native.Mathlib.Omega.{arith}
 use lib.ListN.{length, drop, length-drop}
-use borrow.Author.Tests.{le-leb}
 use Rattle.ground.specs.Lists.{every, any}
 use Rattle.ground.proofs.Tests.{and-left, and-right}
-use Rattle.limits.specs.Limits.{variables, greatestRing, greatestIndex}
+use Rattle.limits.specs.Limits.{variables, greatestRing}
 use Rattle.paper.specs.Grammar.{Bytes, Reader, got, decimal, polynomial, statement}
 use Rattle.paper.specs.Statement.{Written, Pair, Statement, ring, input, goal, lin, del, ext, fields, isRing, isIndex, isVariable, inRange, numbersInRange, tooManyTerms}
 use Rattle.paper.proofs.Ranges.{ring-some, ring-most}
@@ -20,11 +19,9 @@ use Rattle.reader.specs.declared.line.Kind.{Kind}
 use Rattle.reader.specs.declared.line.Kind.the-variants.{Ring, Input, Goal, Lin, Del, Ext}
 use Rattle.reader.proofs.Fields.{Tabbed, FieldsAt, fields-at}
 use Rattle.reader.proofs.Lines.{ranged-ring, ranged-input, ranged-goal, ranged-lin, ranged-del, ranged-ext, few-one, few-lin}
-use Rattle.fields.specs.Fields.{Good, isField}
-use Rattle.fields.proofs.Ranges.{is-field}
-use Rattle.fields.proofs.Taking.{is-variable}
-use Rattle.pairs.specs.Pairs.{isSmall, PairsAt}
-use Rattle.pairs.proofs.Walking.{small-index}
+use Rattle.fields.specs.Fields.{Good, isSmall, isField}
+use Rattle.fields.proofs.Ranges.{is-variable, small-ring, small-index, small-variable, is-field}
+use Rattle.pairs.specs.Pairs.{PairsAt}
 use Rattle.steps.specs.Steps.{Says}
 
 -- ---- the statement of a line
@@ -56,14 +53,6 @@ said {line} h =
     (by-kind (h .value) (record { reads = h .reads; ranged = h .ranged; short = h .short; places = fields-at line true (h .value) [] (h .reads) }))
 
 -- ---- tests of what is read
-small-ring : (k : ℕ) → isRing k ≡ true → isSmall k ≡ true
-unfolding isSmall
-small-ring k e = let l = ring-most k e in le-leb k greatestIndex (omega arith)
-
-small-variable : (v : ℕ) → isVariable v ≡ true → isSmall v ≡ true
-unfolding isSmall
-small-variable v e = let l = is-variable v e in le-leb v greatestIndex (omega arith)
-
 pub ring-range : (k : ℕ) → numbersInRange (ring k) ≡ true → (1 ≤ k) × (k ≤ greatestRing)
 unfolding isRing
 ring-range k e =
