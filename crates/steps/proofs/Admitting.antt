@@ -10,8 +10,7 @@ use Rattle.limits.specs.Verdicts.{ORDER, TAKEN}
 use Rattle.paper.specs.Rules.{first, stored, rules}
 use Rattle.paper.specs.Grammar.{Bytes}
 use Rattle.paper.specs.Statement.{Statement}
-use Rattle.table.specs.declared.Table.{Table}
-use Rattle.table.specs.Table.{firsts, entryAt}
+use Rattle.table.specs.Table.{storeOfColumns}
 use Rattle.table.specs.Steps.{Absent, FirstAt}
 use Rattle.table.proofs.Laws.{absent-stored, found-stored}
 use Rattle.steps.specs.declared.state.State.{State}
@@ -30,15 +29,11 @@ pub admit-misplaced : (place phase : ℕ) (taken : Bool) → (phase ≡ place �
 admit-misplaced place phase taken n = sym (ap (λ (b : Bool). inTurn b taken) (ne-eqb place phase (λ e. n (sym e))))
 
 module _ (indices starts counts pool : List ℕ) (n x place phase : ℕ) (z : phase ≡ place) where
-  pub admit-taken : {j : ℕ} → FirstAt indices n x j → TAKEN ≡ admits place phase (stored (firsts (entryAt indices starts counts pool) n) x) 0
-  admit-taken {j} f =
-      let t : Table = record { indices = indices; starts = starts; counts = counts; stored = n; used = 0 } in
-      sym (ap₂ inTurn (eq-eqb place phase (sym z)) (found-stored t pool x j f))
+  pub admit-taken : {j : ℕ} → FirstAt indices n x j → TAKEN ≡ admits place phase (stored (storeOfColumns indices starts counts pool n) x) 0
+  admit-taken {j} f = sym (ap₂ inTurn (eq-eqb place phase (sym z)) (found-stored indices starts counts pool n x j f))
 
-  pub admit-free : Absent indices n x → 0 ≡ admits place phase (stored (firsts (entryAt indices starts counts pool) n) x) 0
-  admit-free f =
-      let t : Table = record { indices = indices; starts = starts; counts = counts; stored = n; used = 0 } in
-      sym (ap₂ inTurn (eq-eqb place phase (sym z)) (absent-stored t pool x f))
+  pub admit-free : Absent indices n x → 0 ≡ admits place phase (stored (storeOfColumns indices starts counts pool n) x) 0
+  admit-free f = sym (ap₂ inTurn (eq-eqb place phase (sym z)) (absent-stored indices starts counts pool n x f))
 
 -- ---- what follows for the line
 pub unadmitted : {line : Bytes} {capacity : ℕ} {st : Statement} {s : State} {pool scratch : List ℕ} {r : Step} (place : ℕ) (taken : Bool) (later v : ℕ)
