@@ -19,7 +19,7 @@ use Rattle.steps.specs.State.{stateOf}
 use Rattle.steps.specs.Steps.{Does}
 use Rattle.steps.specs.Parts.{admits}
 use Rattle.steps.proofs.Said.{Said}
-use Rattle.steps.proofs.Rows.{two-stop, two-pass}
+use Rattle.steps.proofs.Rows.{two-stop, two-pass, two-later}
 use Rattle.steps.proofs.Stepping.{does, stepped-refused}
 
 abbrev inTurn : Bool → Bool → ℕ
@@ -40,11 +40,11 @@ pub unadmitted : {line : Bytes} {capacity : ℕ} {st : Statement} {s : State} {p
     → Said line st → first (rules capacity (stateOf s pool scratch) st) ≡ admits place (s .phase) taken later → v ≡ admits place (s .phase) taken 0
     → (v ≡ 0 → ⊥) → (r .verdict ≡ v) × (r .state ≡ s) → Does capacity line s pool scratch r pool scratch
 unadmitted {s = s} place taken later v h e q n r =
-    does h (stepped-refused v (omega (arith, n)) (e ∙ two-stop (not (eqb place (s .phase))) taken ORDER TAKEN later (λ z. n (q ∙ z)) ∙ sym q) r refl)
+    does h (stepped-refused v (omega (arith, n)) (e ∙ two-stop (not (eqb place (s .phase))) taken ORDER TAKEN later q n) r refl)
 
 module _ (place phase : ℕ) (taken : Bool) {v : ℕ} (q : v ≡ admits place phase taken 0) (z : v ≡ 0) where
   passed : (not (eqb place phase) ≡ false) × (taken ≡ false)
-  passed = two-pass (not (eqb place phase)) taken ORDER TAKEN (omega arith) (omega arith) (sym q ∙ z)
+  passed = two-pass (not (eqb place phase)) taken ORDER TAKEN (omega arith) (omega arith) q z
 
   pub admitted-phase : phase ≡ place
   admitted-phase = sym (eqb-true place phase (not-false (eqb place phase) (passed .0)))
@@ -53,4 +53,4 @@ module _ (place phase : ℕ) (taken : Bool) {v : ℕ} (q : v ≡ admits place ph
   admitted-free = passed .1
 
   pub admitted : (later : ℕ) → admits place phase taken later ≡ later
-  admitted later = ap₂ (λ (a b : Bool). cond a ORDER (cond b TAKEN later)) (passed .0) (passed .1)
+  admitted = two-later (not (eqb place phase)) taken ORDER TAKEN (omega arith) (omega arith) q z

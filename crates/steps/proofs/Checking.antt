@@ -30,6 +30,7 @@ use Rattle.pairs.proofs.Adding.{kept-stated}
 use Rattle.steps.specs.declared.check.Checked.{Checked}
 use Rattle.steps.specs.Parts.{sums, extends}
 use Rattle.steps.specs.Checks.{Extends, Sums, AddsUp}
+use Rattle.steps.proofs.Rows.{two-stop, two-later}
 
 -- ---- ext
 module _ (k v n : ℕ) (seen : List ℕ) (s : List ℕ) where
@@ -94,17 +95,6 @@ module _ (k v n : ℕ) (seen : List ℕ) (s : List ℕ) where
         }
 
 -- ---- lin
--- a verdict of the pairs comes before a later one, and none leaves it
-refused-before : (present over : Bool) (v later : ℕ) → (v ≡ 0 → ⊥) → v ≡ cond (not present) MISSING (cond over PRODUCTS 0) → v ≡ cond (not present) MISSING (cond over PRODUCTS later)
-refused-before false over v later l e = e
-refused-before true true v later l e = e
-refused-before true false v later l e = absurd (l e)
-
-not-refused : (present over : Bool) (later : ℕ) → 0 ≡ cond (not present) MISSING (cond over PRODUCTS 0) → later ≡ cond (not present) MISSING (cond over PRODUCTS later)
-not-refused false over later e = absurd (let z : ⊥ = omega (arith, e) in z)
-not-refused true true later e = absurd (let z : ⊥ = omega (arith, e) in z)
-not-refused true false later e = refl
-
 -- of the n terms p of the stated region of x, which sum-pairs left
 module _ {k : ℕ} {store : Store} {p : Poly} {qs : List Pair} {n : ℕ} (seen : List ℕ) {s x : List ℕ} {u : Sum} (few : n ≤ fieldTerms) (a : Summed k store qs (number seen) s x u)
     (stated : decode n (drop statedAt s) ≡ p) where
@@ -114,6 +104,9 @@ module _ {k : ℕ} {store : Store} {p : Poly} {qs : List Pair} {n : ℕ} (seen :
   abbrev present : Bool
   present = every (stored store) (map (λ q. q .index) qs)
 
+  abbrev over : Bool
+  over = ltb lineProducts (productsOf k (find store) qs)
+
   abbrev sum : Bool
   sum = equal p (reduce k (combination k (find store) qs))
 
@@ -121,11 +114,11 @@ module _ {k : ℕ} {store : Store} {p : Poly} {qs : List Pair} {n : ℕ} (seen :
   halted r why l e q = subst (Adding r) (sym q) (record { verdict = e; stands = λ z. absurd (l z) })
 
   pub sums-refused : (u .verdict ≡ 0 → ⊥) → {c : Checked} → c ≡ record { verdict = u .verdict; terms = 0; products = 0; seen = seen } → Adding x c
-  sums-refused l = halted x (u .verdict) l (refused-before present (ltb lineProducts (productsOf k (find store) qs)) (u .verdict) (cond (not sum) MISMATCH 0) l (a .verdict))
+  sums-refused l = halted x (u .verdict) l (sym (two-stop (not present) over MISSING PRODUCTS (cond (not sum) MISMATCH 0) (a .verdict) l))
 
   module _ (o : u .verdict ≡ 0) (kk : k ≤ greatestRing) {r : List ℕ} {b : Bool} (w : Within 0 statedAt x r) (d : b ≡ equal (decode n (drop statedAt x)) (reduce k (decode (u .terms) x))) where
     counted-sum : (y : Bool) → cond (not y) MISMATCH 0 ≡ sums present (productsOf k (find store) qs) y 0
-    counted-sum y = not-refused present (ltb lineProducts (productsOf k (find store) qs)) (cond (not y) MISMATCH 0) (sym o ∙ a .verdict)
+    counted-sum y = sym (two-later (not present) over MISSING PRODUCTS (omega arith) (omega arith) (a .verdict) o (cond (not y) MISMATCH 0))
 
     same-sum : b ≡ sum
     same-sum = d ∙ ap₂ equal (kept-stated s x (a .kept) n (omega arith) ∙ stated) (ap (reduce k) (a .run o) ∙ reduce-rounded k kk (combination k (find store) qs))

@@ -93,15 +93,24 @@ module _ (capacity : ℕ) (s : State) where
       (or-false (stored (s .store) i)) (add-zero (total (λ q. length (reduced k (q .factor)) * length (find (s .store) (q .index))) qs))
 
 -- ---- tests in a row
-pub two-stop : (a b : Bool) (v w x : ℕ) → (cond a v (cond b w 0) ≡ 0 → ⊥) → cond a v (cond b w x) ≡ cond a v (cond b w 0)
-two-stop true b v w x h = refl
-two-stop false true v w x h = refl
-two-stop false false v w x h = absurd (h refl)
+-- a verdict r of two tests comes before a later one
+pub two-stop : (a b : Bool) (v w later : ℕ) {r : ℕ} → r ≡ cond a v (cond b w 0) → (r ≡ 0 → ⊥) → cond a v (cond b w later) ≡ r
+two-stop true b v w later e n = sym e
+two-stop false true v w later e n = sym e
+two-stop false false v w later e n = absurd (n e)
 
-pub two-pass : (a b : Bool) (v w : ℕ) → 0 < v → 0 < w → cond a v (cond b w 0) ≡ 0 → (a ≡ false) × (b ≡ false)
-two-pass true b v w l m e = absurd (let z : ⊥ = omega arith in z)
-two-pass false true v w l m e = absurd (let z : ⊥ = omega arith in z)
-two-pass false false v w l m e = (refl, refl)
+-- and where it is 0, both are false, and the later one is left
+module _ (a b : Bool) (v w : ℕ) (l : 0 < v) (m : 0 < w) {r : ℕ} (e : r ≡ cond a v (cond b w 0)) (z : r ≡ 0) where
+  pub two-pass : (a ≡ false) × (b ≡ false)
+  two-pass = go a b (sym e ∙ z)
+    where
+      go : (a b : Bool) → cond a v (cond b w 0) ≡ 0 → (a ≡ false) × (b ≡ false)
+      go true b e = absurd (let z : ⊥ = omega arith in z)
+      go false true e = absurd (let z : ⊥ = omega arith in z)
+      go false false e = (refl, refl)
+
+  pub two-later : (later : ℕ) → cond a v (cond b w later) ≡ later
+  two-later later = ap₂ (λ (a b : Bool). cond a v (cond b w later)) (two-pass .0) (two-pass .1)
 
 -- where v is 0 it is left to the later verdict
 pub else-same : (v a b : ℕ) → (v ≡ 0 → a ≡ b) → cond (eqb v ACCEPTED) a v ≡ cond (eqb v ACCEPTED) b v
