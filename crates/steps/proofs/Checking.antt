@@ -1,14 +1,13 @@
 -- What the checks of an ext line and of a lin line say. Assumes nothing.
 use mathlib.Core.Path.{_≡_, refl, sym, ap, ap₂, subst, _∙_}
 use mathlib.Core.Bool.{Bool, true, false, not, cond}
-use mathlib.Core.List.{List, map}
+use mathlib.Core.List.{List}
 use Prim.Native.Nat.{ℕ, _*_, _^_, _≤_, _<_}
 use native.Mathlib.Omega.{arith}
 use lib.Bits.{bitOr}
 use lib.Dec.{ltb}
 use lib.ListN.{length, drop}
 use borrow.Author.Tests.{lt-ltb, le-ltb}
-use Rattle.ground.specs.Lists.{every}
 use Rattle.words.specs.Parts.{Within}
 use Rattle.words.proofs.Parts.{drop-more}
 use Rattle.limits.specs.Limits.{greatestRing, fieldTerms, lineProducts}
@@ -21,11 +20,11 @@ use Rattle.terms.proofs.Decode.{decode-length, decode-above}
 use Rattle.terms.proofs.Rounding.{reduce-rounded}
 use Rattle.paper.specs.Grammar.{Bytes}
 use Rattle.paper.specs.Statement.{Pair, reduced}
-use Rattle.paper.specs.Rules.{Store, stored, find, combination}
+use Rattle.paper.specs.Rules.{Store, find, combination}
 use Rattle.fields.specs.declared.FieldRun.{FieldRun}
 use Rattle.regions.specs.Regions.{statedAt, factorAt, goalAt, ReducedAt, StatedIs}
 use Rattle.pairs.specs.declared.Sum.{Sum}
-use Rattle.pairs.specs.Pairs.{PairsAt, productsOf, Summed}
+use Rattle.pairs.specs.Pairs.{PairsAt, allStored, productsOf, Summed}
 use Rattle.pairs.proofs.Adding.{kept-stated}
 use Rattle.steps.specs.declared.check.Checked.{Checked}
 use Rattle.steps.specs.Parts.{sums, extends}
@@ -102,7 +101,7 @@ module _ {k : ℕ} {store : Store} {p : Poly} {qs : List Pair} {n : ℕ} (seen :
   Adding r c = Sums k store p qs (number seen) r c
 
   abbrev present : Bool
-  present = every (stored store) (map (λ q. q .index) qs)
+  present = allStored store qs
 
   abbrev over : Bool
   over = ltb lineProducts (productsOf k (find store) qs)
