@@ -19,6 +19,7 @@ use Rattle.reader.specs.declared.line.Kind.{Kind}
 use Rattle.reader.specs.declared.line.LineScan.{LineScan}
 use Rattle.reader.specs.declared.line.LineScan.the-variants.{Line as Scanned, Stuck}
 use Rattle.reader.specs.Lines.{Stands, Halts, LineIs}
+use Rattle.reader.proofs.Fields.{short-of}
 use Rattle.steps.specs.declared.state.State.{State}
 use Rattle.steps.specs.declared.state.Step.{Step}
 use Rattle.steps.specs.State.{stateOf}
@@ -30,14 +31,10 @@ abbrev lineOf : Bytes → Bool → Line
 lineOf s ended = record { content = s; ended = ended }
 
 -- ---- only a line with its byte 10 can be read
-no-short : (x : Read Statement) {st : Statement} {r : Bytes} → next x (λ _ t. stuck t) ≡ got st r → ⊥
-no-short (got y t) e = let z : _≡_ {A = ℕ} 0 1 = cc in omega arith
-no-short (stuck t) e = let z : _≡_ {A = ℕ} 0 1 = cc in omega arith
-
 pub ended-got : (s : Bytes) (ended : Bool) {st : Statement} {r : Bytes} → statement (lineOf s ended) ≡ got st r → statement (lineOf s true) ≡ got st r
 unfolding statement
 ended-got s true e = e
-ended-got s false e = absurd (no-short (oneOf kinds s) e)
+ended-got s false e = absurd (short-of (oneOf kinds s) e)
 
 -- ---- what the scan of a line says
 pub scanned : {s : Bytes} {ended : Bool} {x : LineScan} {k : Kind} {v : ℕ} → x ≡ Scanned k v → LineIs s ended x → Stands s ended k v

@@ -18,6 +18,7 @@ use Rattle.paper.proofs.Ranges.{cond-yes, cond-no}
 use Rattle.paper.proofs.Reading.{clash, parted, Takes, each-more, each-stuck, every-append}
 use Rattle.paper.proofs.Pieces.{digits-more, digits-least, decimal-first, decimal-low, decimal-high, decimal-end}
 use Rattle.reader.specs.Places.{Got}
+use Rattle.reader.proofs.Fields.{Tabbed}
 use Rattle.reader.proofs.Scans.{Passed}
 use Rattle.fields.specs.Worded.{signedWord}
 use Rattle.fields.specs.Fields.{Good, isWord, isSmall}
@@ -35,6 +36,10 @@ not-both p q = clash (sym q ∙ p)
 
 pub good-weaken : {A : Type 0} {read : Reader A} {f g : A → Bool} {s : Bytes} {at : ℕ} → ((x : A) → f x ≡ true → g x ≡ true) → Good read f s at → Good read g s at
 good-weaken h p = record { value = p .value; rest = p .rest; reads = p .reads; passes = h (p .value) (p .passes); inside = p .inside }
+
+-- what is read behind a tab
+pub tab-good : {A : Type 0} (read : Reader A) (test : A → Bool) {s : Bytes} {m : ℕ} {x : A} {r : Bytes} → Tabbed read s m x r → test x ≡ true → Good read test s (m + 1)
+tab-good read test {x = x} {r = r} t e = let l = t .inside in record { value = x; rest = r; reads = t .reads; passes = e; inside = omega arith }
 
 pub small-got : {s : Bytes} {at n e : ℕ} → Good decimal isSmall s at → Got decimal s at n e → n ≤ greatestIndex
 small-got {n = n} g t = let e : g .value ≡ n = same-value (g .reads) (t .reads) in omega (arith, is-small (g .value) (g .passes))

@@ -8,18 +8,18 @@ use Prim.Native.Char.{code}
 use native.Mathlib.Omega.{arith}
 use lib.Dec.{eqb, ltb}
 use lib.ListN.{length, drop, getD, length-drop, drop-of-length-le}
-use lib.Seq.{drop-cons, drop-drop}
+use lib.Seq.{drop-cons}
 use borrow.Author.Tests.{ltb-true, ltb-false, eqb-true, eqb-false}
 use Rattle.ground.specs.Lists.{every}
 use Rattle.ground.proofs.Tests.{split, and-left, and-right}
-use Rattle.paper.specs.Grammar.{Bytes, bytes, Read, got, stuck, each, decimal, polynomial, tab, field, pair}
+use Rattle.paper.specs.Grammar.{Bytes, Read, got, stuck, each, decimal, polynomial, field, pair}
 use Rattle.paper.specs.Statement.{Written, Pair, isIndex, inRange}
-use Rattle.paper.proofs.Reading.{parted, takes-decimal, takes-polynomial, takes-pair, literal-inside, each-more, each-stuck, each-stop, each-end}
+use Rattle.paper.proofs.Reading.{parted, takes-decimal, takes-polynomial, takes-pair, each-more, each-stuck, each-stop, each-end}
 use Rattle.reader.specs.Places.{Got}
 use Rattle.reader.specs.Fields.{fewTerms}
 use Rattle.reader.specs.Lines.{pairRanged, pairFew, morePairs}
 use Rattle.reader.specs.Search.{EndsField, WholeField}
-use Rattle.reader.proofs.Fields.{placed, same-end}
+use Rattle.reader.proofs.Fields.{tabbed, placed, same-end}
 use Rattle.fields.specs.Fields.{Good, isSmall, isField}
 use Rattle.fields.proofs.Ranges.{small-index, is-field}
 use Rattle.fields.proofs.Taking.{same-value, same-rest, not-both}
@@ -33,21 +33,14 @@ pub record PairParts (s : Bytes) (at : ℕ) (q : Pair) (e : ℕ) : Type 0 where
   pub tabbed : middle < length s
   pub factor : Got polynomial s (middle + 1) (q .factor) e
 
-tab-parts : (s : Bytes) (m : ℕ) (p : Written) (r : Bytes) → field (drop m s) ≡ got p r → (m < length s) × (polynomial (drop (m + 1) s) ≡ got p r)
-unfolding field tab bytes
-tab-parts s m p r e =
-    let t = parted (tab (drop m s)) _ e in
-    let l = literal-inside (bytes "\t") (drop m s) (t .value) (t .rest) (t .first) in
-    (omega (arith, l .0, length-drop m s), ap polynomial (sym (l .1 ∙ drop-drop 1 m s)) ∙ t .second)
-
 pair-parts : (s : Bytes) (at : ℕ) (q : Pair) (r : Bytes) → at ≤ length s → pair (drop at s) ≡ got q r → (e : ℕ) × PairParts s at q e × (r ≡ drop e s)
-unfolding pair
+unfolding pair field
 pair-parts s at q r h e =
     let p = parted (decimal (drop at s)) _ e in
     let i = placed decimal takes-decimal s at h (p .value) (p .rest) (p .first) in
     let f = parted (field (p .rest)) _ (p .second) in
-    let t = tab-parts s (i .0) (f .value) (f .rest) (ap field (sym (i .3)) ∙ f .first) in
-    let w = placed polynomial takes-polynomial s (i .0 + 1) (omega (arith, t .0)) (f .value) (f .rest) (t .1) in
+    let t = tabbed polynomial s (i .0) (ap field (sym (i .3)) ∙ f .first) in
+    let w = placed polynomial takes-polynomial s (i .0 + 1) (omega (arith, t .inside)) (f .value) (f .rest) (t .reads) in
     let x : record { index = p .value; factor = f .value } ≡ q = (let y = f .second in cc) in
     let z : f .rest ≡ r = (let y = f .second in cc) in
     let v : r ≡ drop (w .0) s = subst (λ (l : Bytes). l ≡ drop (w .0) s) z (w .3) in (
@@ -55,7 +48,7 @@ pair-parts s at q r h e =
       record {
         middle = i .0;
         index = subst (λ (u : Pair). Got decimal s at (u .index) (i .0)) x (i .2);
-        tabbed = t .0;
+        tabbed = t .inside;
         factor = subst (λ (u : Pair). Got polynomial s (i .0 + 1) (u .factor) (w .0)) x (w .2);
       },
       v,

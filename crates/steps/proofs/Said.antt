@@ -1,7 +1,7 @@
 -- What a line of each kind says: where its fields can be read, and the statement that the numbers and polynomials read there make.
 -- Assumes nothing.
 use mathlib.Core.Path.{_≡_, ap, subst, _∙_}
-use mathlib.Core.Bool.{Bool, true, false, _&&_, not}
+use mathlib.Core.Bool.{true, false, _&&_, not}
 use mathlib.Core.List.{List, [], _∷_}
 use Prim.Native.Nat.{ℕ, _+_, _≤_, _<_}
 use native.Mathlib.Omega.{arith}
@@ -21,6 +21,7 @@ use Rattle.reader.proofs.Fields.{Tabbed, FieldsAt, fields-at}
 use Rattle.reader.proofs.Lines.{ranged-ring, ranged-input, ranged-goal, ranged-lin, ranged-del, ranged-ext, few-one, few-lin}
 use Rattle.fields.specs.Fields.{Good, isSmall, isField}
 use Rattle.fields.proofs.Ranges.{is-variable, small-ring, small-index, small-variable, is-field}
+use Rattle.fields.proofs.Taking.{tab-good}
 use Rattle.pairs.specs.Pairs.{PairsAt}
 use Rattle.steps.specs.Steps.{Says}
 
@@ -63,10 +64,6 @@ one-short : (p : Written) → any tooManyTerms (p ∷ []) ≡ false → fewTerms
 one-short p e = few-one p ∙ ap not e
 
 -- ---- places
--- what a reading behind a tab gives
-tab-good : {A : Type 0} (read : Reader A) (test : A → Bool) {s : Bytes} {m : ℕ} {x : A} {r : Bytes} → Tabbed read s m x r → test x ≡ true → Good read test s (m + 1)
-tab-good read test {x = x} {r = r} t e = let l = t .inside in record { value = x; rest = r; reads = t .reads; passes = e; inside = omega arith }
-
 tab-same : {A : Type 0} (read : Reader A) {s : Bytes} {m : ℕ} {x y : A} {r : Bytes} {e : ℕ} → Tabbed read s m x r → Got read s (m + 1) y e → x ≡ y
 tab-same read t g = let p = t .reads in let q = g .reads in cc
 
