@@ -1,3 +1,4 @@
+pub mod Ranges
 pub mod Taking
 pub mod TermParts
 pub mod Gathering

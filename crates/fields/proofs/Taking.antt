@@ -7,20 +7,22 @@ use Prim.Native.Nat.{ℕ, _+_, _-_, _*_, _%_, _^_, _≤_, _<_}
 use native.Mathlib.Omega.{arith}
 use lib.Bits.{bitOr, or-comm}
 use lib.ListN.{length, drop, getD, replicate, length-append}
-use borrow.Author.Tests.{ltb-true, lt-ltb}
 use Rattle.ground.specs.Lists.{every}
 use Rattle.ground.proofs.Tests.{and-left, and-right}
-use Rattle.limits.specs.Limits.{variables, setWords}
+use Rattle.limits.specs.Limits.{greatestIndex, setWords}
 use Rattle.algebra.proofs.Unions.{or-assoc}
 use Rattle.words.specs.Words.{number}
 use Rattle.paper.specs.Grammar.{Bytes, Read, got, stuck, Reader, next, each, digits, decimal}
-use Rattle.paper.specs.Statement.{isVariable, setOf}
+use Rattle.paper.specs.Statement.{setOf}
 use Rattle.paper.proofs.Ranges.{cond-yes, cond-no}
 use Rattle.paper.proofs.Reading.{clash, parted, Takes, each-more, each-stuck, every-append}
 use Rattle.paper.proofs.Pieces.{digits-more, digits-least, decimal-first, decimal-low, decimal-high, decimal-end}
-use Rattle.fields.specs.Worded.{signedWord}
-use Rattle.fields.specs.Fields.{Good, isWord}
+use Rattle.reader.specs.Places.{Got}
+use Rattle.reader.proofs.Fields.{Tabbed}
 use Rattle.reader.proofs.Scans.{Passed}
+use Rattle.fields.specs.Worded.{signedWord}
+use Rattle.fields.specs.Fields.{Good, isWord, isSmall}
+use Rattle.fields.proofs.Ranges.{is-word, is-small}
 
 -- one reading has one value and one rest
 pub same-value : {A : Type 0} {r : Read A} {x y : A} {s t : Bytes} → r ≡ got x s → r ≡ got y t → x ≡ y
@@ -32,21 +34,15 @@ same-rest p q = cc
 pub not-both : {A : Type 0} {r : Read A} {x : A} {s t : Bytes} → r ≡ got x s → r ≡ stuck t → ⊥
 not-both p q = clash (sym q ∙ p)
 
--- ---- a decimal that a word holds
-is-word : (n : ℕ) → isWord n ≡ true → n < 2 ^ 64
-unfolding isWord
-is-word n e = ltb-true n (2 ^ 64) e
-
-pub variable-word : (v : ℕ) → isVariable v ≡ true → isWord v ≡ true
-unfolding isVariable isWord
-variable-word v e = let h = ltb-true v variables e in lt-ltb v (2 ^ 64) (omega arith)
-
-pub is-variable : (v : ℕ) → isVariable v ≡ true → v < variables
-unfolding isVariable
-is-variable v e = ltb-true v variables e
-
 pub good-weaken : {A : Type 0} {read : Reader A} {f g : A → Bool} {s : Bytes} {at : ℕ} → ((x : A) → f x ≡ true → g x ≡ true) → Good read f s at → Good read g s at
 good-weaken h p = record { value = p .value; rest = p .rest; reads = p .reads; passes = h (p .value) (p .passes); inside = p .inside }
+
+-- what is read behind a tab
+pub tab-good : {A : Type 0} (read : Reader A) (test : A → Bool) {s : Bytes} {m : ℕ} {x : A} {r : Bytes} → Tabbed read s m x r → test x ≡ true → Good read test s (m + 1)
+tab-good read test {x = x} {r = r} t e = let l = t .inside in record { value = x; rest = r; reads = t .reads; passes = e; inside = omega arith }
+
+pub small-got : {s : Bytes} {at n e : ℕ} → Good decimal isSmall s at → Got decimal s at n e → n ≤ greatestIndex
+small-got {n = n} g t = let e : g .value ≡ n = same-value (g .reads) (t .reads) in omega (arith, is-small (g .value) (g .passes))
 
 -- ---- the next item
 pub record Following {A : Type 0} (item : Reader A) (test : A → Bool) (s : Bytes) (i : ℕ) (items whole : List A) : Type 0 where

@@ -3,11 +3,11 @@ use mathlib.Core.Path.{_≡_}
 use mathlib.Core.Bool.{Bool, true, _&&_}
 use mathlib.Core.List.{List, _∷_, [], _++_}
 use Prim.Native.Nat.{ℕ, suc, _+_, _*_, _^_, _≤_}
-use lib.Dec.{ltb}
+use lib.Dec.{leb, ltb}
 use lib.ListN.{length, drop}
 use Rattle.ground.specs.Lists.{every}
 use Rattle.words.specs.Parts.{Within}
-use Rattle.limits.specs.Limits.{termWords}
+use Rattle.limits.specs.Limits.{greatestIndex, termWords}
 use Rattle.words.specs.Words.{number}
 use Rattle.terms.specs.Terms.{termOf, decode}
 use Rattle.paper.specs.Grammar.{Bytes, Reader, got, term, polynomial}
@@ -29,6 +29,10 @@ pub record Good {A : Type 0} (read : Reader A) (test : A → Bool) (s : Bytes) (
 
 unfoldable pub isWord : ℕ → Bool
 isWord n = ltb n (2 ^ 64)
+
+-- a number that half a word holds: every index, ring and variable is one
+unfoldable pub isSmall : ℕ → Bool
+isSmall n = leb n greatestIndex
 
 -- terms behind a first, and a whole field
 unfoldable pub isRest : List WrittenTerm → Bool

@@ -10,13 +10,19 @@ ghost use Rattle.paper.specs.Statement.{isVariable, isTerm};
 ghost use Rattle.reader.specs.Places.{Got};
 ghost use Rattle.reader.specs.Fields.{moreVariables, moreTerms};
 ghost use Rattle.fields.specs.Worded.{signedWord};
-ghost use Rattle.fields.specs.Fields.{Good, isWord, isRest, isField, NamedAt, TermAt, Appended, RestAt, FieldAt};
+ghost use Rattle.fields.specs.Fields.{Good, isWord, isSmall, isRest, isField, NamedAt, TermAt, Appended, RestAt, FieldAt};
 use terms::Term;
 use words::Set;
 
 // A number and its end.
 pub struct Taken {
     pub value: u64,
+    pub end: usize,
+}
+
+// A number that half a word holds, and its end.
+pub struct Small {
+    pub value: u32,
     pub end: usize,
 }
 
@@ -72,6 +78,18 @@ pub fn take_decimal(s: &[u8], at: usize) -> Taken
         };
     }
     take_digits(s, at + 1, (b - b'0') as u64)
+}
+
+// The number at at: an index, a ring or a variable.
+pub fn small_at(s: &[u8], at: usize) -> Small
+    requires { ⌜ Good decimal isSmall (now s) at ⌝ }
+    ensures { λ r. ⌜ Got decimal (now (s .entry)) at (r .value) (r .end) ⌝ }
+{
+    let d = take_decimal(s, at);
+    Small {
+        value: d.value as u32,
+        end: d.end,
+    }
 }
 
 // The variables at at, each behind a dot.

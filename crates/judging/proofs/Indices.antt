@@ -3,13 +3,13 @@ use mathlib.Core.Path.{_≡_, refl, sym, ap, subst, _∙_}
 use mathlib.Core.Bool.{Bool, true, false, _&&_, cond}
 use mathlib.Core.Logic.{_⊎_, inl, inr}
 use mathlib.Core.List.{List, []}
-use Prim.Native.Nat.{ℕ, _+_, _^_, _≤_}
+use Prim.Native.Nat.{ℕ, _+_, _≤_}
 use native.Mathlib.Omega.{arith}
-use lib.Dec.{eqb, leb, ltb}
+use lib.Dec.{eqb, ltb}
 use lib.ListN.{length, drop}
-use borrow.Author.Tests.{leb-true, le-leb, lt-ltb}
-use Rattle.ground.proofs.Tests.{split, and-left, and-right, by-cond}
-use Rattle.limits.specs.Limits.{greatestIndex, lineBytes}
+use borrow.Author.Tests.{le-leb}
+use Rattle.ground.proofs.Tests.{split, and-left, by-cond}
+use Rattle.limits.specs.Limits.{lineBytes}
 use Rattle.limits.specs.Verdicts.{FORM, NUMBER, TERMS}
 use Rattle.paper.specs.Rules.{first, rules}
 use Rattle.paper.specs.Grammar.{Bytes, Line, Read, got, stuck, decimal, statement}
@@ -23,7 +23,8 @@ use Rattle.reader.proofs.Fields.{Tabbed, FieldsAt, fields-at}
 use Rattle.reader.proofs.Lines.{ranged-input, ranged-lin, ranged-del, ranged-ext}
 use Rattle.ground.specs.Lists.{every}
 use Rattle.fields.specs.Fields.{Good, isWord}
-use Rattle.fields.proofs.Taking.{same-value}
+use Rattle.fields.proofs.Ranges.{small-word, small-index}
+use Rattle.fields.proofs.Taking.{same-value, tab-good}
 use Rattle.steps.specs.declared.state.State.{State}
 use Rattle.steps.specs.declared.state.Step.{Step}
 use Rattle.steps.specs.State.{stateOf}
@@ -31,19 +32,13 @@ use Rattle.judging.specs.Judged.{Ranged, indexOfRead, LineJudged}
 use Rattle.judging.proofs.Judging.{ended-got}
 
 -- ---- where an index stands
-index-word : (i : ℕ) → isIndex i ≡ true → isWord i ≡ true
-unfolding isIndex isWord
-index-word i e = let l : i ≤ greatestIndex = leb-true i greatestIndex (and-right (leb 1 i) (leb i greatestIndex) e) in lt-ltb i (2 ^ 64) (omega arith)
-
 -- the index i, in range, is read at m
 pub record IndexAt (line : Bytes) (m i : ℕ) : Type 0 where
   pub word : Good decimal isWord line m
   pub same : word .value ≡ i
 
 tabbed-index : {line : Bytes} {m i : ℕ} {r : Bytes} → Tabbed decimal line m i r → isIndex i ≡ true → IndexAt line (m + 1) i
-tabbed-index {i = i} {r} t e =
-    let l = t .inside in
-    record { word = record { value = i; rest = r; reads = t .reads; passes = index-word i e; inside = omega arith }; same = refl }
+tabbed-index {i = i} t e = record { word = tab-good decimal isWord t (small-word i (small-index i e)); same = refl }
 
 -- by the kind of the statement
 abbrev pub Indexed : Bytes → Statement → Kind → Type 0

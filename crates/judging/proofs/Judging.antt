@@ -5,7 +5,7 @@ use mathlib.Core.List.{List, []}
 use Prim.Native.Nat.{ℕ, _≤_, _<_}
 use native.Mathlib.Omega.{arith}
 use lib.ListN.{length}
-use borrow.Author.Tests.{ne-eqb, lt-leb}
+use borrow.Author.Tests.{ne-eqb, lt-leb, not-false}
 use Rattle.ground.specs.Lists.{any}
 use Rattle.limits.specs.Limits.{lineBytes}
 use Rattle.limits.specs.Verdicts.{ACCEPTED, LONGLINE, FORM, NUMBER, TERMS}
@@ -19,24 +19,22 @@ use Rattle.reader.specs.declared.line.Kind.{Kind}
 use Rattle.reader.specs.declared.line.LineScan.{LineScan}
 use Rattle.reader.specs.declared.line.LineScan.the-variants.{Line as Scanned, Stuck}
 use Rattle.reader.specs.Lines.{Stands, Halts, LineIs}
+use Rattle.reader.proofs.Fields.{short-of}
 use Rattle.steps.specs.declared.state.State.{State}
 use Rattle.steps.specs.declared.state.Step.{Step}
 use Rattle.steps.specs.State.{stateOf}
 use Rattle.steps.specs.Steps.{Says, Does}
+use Rattle.steps.proofs.Rows.{two-stop, two-pass}
 use Rattle.judging.specs.Judged.{indexOfRead, LineJudged}
 
 abbrev lineOf : Bytes → Bool → Line
 lineOf s ended = record { content = s; ended = ended }
 
 -- ---- only a line with its byte 10 can be read
-no-short : (x : Read Statement) {st : Statement} {r : Bytes} → next x (λ _ t. stuck t) ≡ got st r → ⊥
-no-short (got y t) e = let z : _≡_ {A = ℕ} 0 1 = cc in omega arith
-no-short (stuck t) e = let z : _≡_ {A = ℕ} 0 1 = cc in omega arith
-
 pub ended-got : (s : Bytes) (ended : Bool) {st : Statement} {r : Bytes} → statement (lineOf s ended) ≡ got st r → statement (lineOf s true) ≡ got st r
 unfolding statement
 ended-got s true e = e
-ended-got s false e = absurd (no-short (oneOf kinds s) e)
+ended-got s false e = absurd (short-of (oneOf kinds s) e)
 
 -- ---- what the scan of a line says
 pub scanned : {s : Bytes} {ended : Bool} {x : LineScan} {k : Kind} {v : ℕ} → x ≡ Scanned k v → LineIs s ended x → Stands s ended k v
@@ -45,30 +43,20 @@ scanned e h = rw e at h
 pub halted : {s : Bytes} {ended : Bool} {x : LineScan} {q : ℕ} → x ≡ Stuck q → LineIs s ended x → Halts s ended q
 halted e h = rw e at h
 
-verdict-none : (a b : Bool) → 0 ≡ cond (not a) NUMBER (cond b TERMS ACCEPTED) → (a ≡ true) × (b ≡ false)
-verdict-none true true e = absurd (let z : ⊥ = omega arith in z)
-verdict-none true false e = (refl, refl)
-verdict-none false b e = absurd (let z : ⊥ = omega arith in z)
-
 pub stands-says : {s : Bytes} {ended : Bool} {k : Kind} {v : ℕ} → Stands s ended k v → v ≡ 0 → Says s k
 stands-says {s} {ended} h z =
     let st = h .value in
-    let p = verdict-none (numbersInRange st) (any tooManyTerms (fields st)) (sym z ∙ h .verdict) in
-    record { value = st; reads = ended-got s ended (h .reads); kind = h .kind; ranged = p .0; short = p .1 }
+    let p = two-pass (not (numbersInRange st)) (any tooManyTerms (fields st)) NUMBER TERMS (omega arith) (omega arith) (h .verdict) z in
+    record { value = st; reads = ended-got s ended (h .reads); kind = h .kind; ranged = not-false (numbersInRange st) (p .0); short = p .1 }
 
 pub says-as : {s : Bytes} {k j : Kind} → k ≡ j → Says s k → Says s j
 says-as {s} e h = subst (Says s) e h
 
 -- ---- the rows NUMBER and TERMS
-verdict-some : (a b : Bool) (v w : ℕ) → v ≡ cond (not a) NUMBER (cond b TERMS ACCEPTED) → (v ≡ 0 → ⊥) → cond (not a) NUMBER (cond b TERMS w) ≡ v
-verdict-some true true v w e n = sym e
-verdict-some true false v w e n = absurd (n e)
-verdict-some false b v w e n = sym e
-
 first-scanned : (capacity : ℕ) (s : paper.State) (st : Statement) (v : ℕ) → v ≡ cond (not (numbersInRange st)) NUMBER (cond (any tooManyTerms (fields st)) TERMS ACCEPTED)
     → (v ≡ 0 → ⊥) → first (rules capacity s st) ≡ v
 unfolding first rules
-first-scanned capacity s st v e n = verdict-some (numbersInRange st) (any tooManyTerms (fields st)) v _ e n
+first-scanned capacity s st v e n = two-stop (not (numbersInRange st)) (any tooManyTerms (fields st)) NUMBER TERMS _ e n
 
 -- ---- judging
 judge-index : (capacity : ℕ) (s : paper.State) (st : Statement) (v : ℕ) (r : Bytes) → (v ≡ 0 → ⊥) → first (rules capacity s st) ≡ v

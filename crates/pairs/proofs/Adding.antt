@@ -21,8 +21,7 @@ use Rattle.paper.specs.Statement.{Pair, reduced}
 use Rattle.paper.specs.Rules.{Store, stored, find}
 use Rattle.reader.specs.Places.{Got}
 use Rattle.fields.specs.declared.FieldRun.{FieldRun}
-use Rattle.table.specs.declared.Table.{Table}
-use Rattle.table.specs.Table.{polyAt, storeOf}
+use Rattle.table.specs.Table.{polyAt, storeOfColumns}
 use Rattle.table.specs.Steps.{Absent, FirstAt}
 use Rattle.table.proofs.Packing.{ends-used}
 use Rattle.table.proofs.Laws.{absent-stored, found-stored, found-find}
@@ -107,11 +106,8 @@ extended-as {p} {p′} {q} {q′} terms {earlier} {s} {x} {r} {sum} ep eq d k a 
 
 -- ---- the pair at hand
 module _ (indices starts counts pool : List ℕ) (n : ℕ) where
-  abbrev columns : Table
-  columns = record { indices = indices; starts = starts; counts = counts; stored = n; used = 0 }
-
   abbrev store : Store
-  store = storeOf columns pool
+  store = storeOfColumns indices starts counts pool n
 
   module _ {line : Bytes} {at : ℕ} {qs : List Pair} (w : PairsAt line at qs) (h : at < length line) where
     next : Next line at qs
@@ -129,7 +125,7 @@ module _ (indices starts counts pool : List ℕ) (n : ℕ) where
           not-stored : stored store (next .head .index) ≡ true → ⊥
           not-stored t =
               let f : stored store (next .head .index) ≡ false
-              = ap (stored store) (sym same) ∙ absent-stored columns pool x d in
+              = ap (stored store) (sym same) ∙ absent-stored indices starts counts pool n x d in
               let z : _≡_ {A = ℕ} 0 1 = cc in
               omega arith
 
@@ -149,7 +145,7 @@ module _ (indices starts counts pool : List ℕ) (n : ℕ) where
           factor = d .run ∙ ap (reduced k) (factor-same next g (d .taken))
 
           named : polyAt starts counts pool j ≡ find store (next .head .index)
-          named = sym (found-find columns pool x j o) ∙ ap (find store) same
+          named = sym (found-find indices starts counts pool n x j o) ∙ ap (find store) same
 
           whole : Extended (reduced k (next .head .factor)) (find store (next .head .index)) terms earlier s r sum
           whole = extended-as terms factor named (decode-below terms factorAt goalAt s y (d .within) (omega arith)) (kept-factor s y (d .within)) a
@@ -157,7 +153,7 @@ module _ (indices starts counts pool : List ℕ) (n : ℕ) where
           is-stored : stored store (next .head .index) ≡ false → ⊥
           is-stored t =
               let f : stored store (next .head .index) ≡ true
-              = ap (stored store) (sym same) ∙ found-stored columns pool x j o in
+              = ap (stored store) (sym same) ∙ found-stored indices starts counts pool n x j o in
               let z : _≡_ {A = ℕ} 0 1 = cc in
               omega arith
 

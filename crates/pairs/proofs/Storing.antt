@@ -10,19 +10,15 @@ use Rattle.paper.specs.Statement.{Pair}
 use Rattle.paper.specs.Rules.{Store, stored}
 use Rattle.reader.specs.Places.{Got}
 use Rattle.reader.specs.Search.{FieldEnd}
-use Rattle.table.specs.declared.Table.{Table}
-use Rattle.table.specs.Table.{storeOf}
+use Rattle.table.specs.Table.{storeOfColumns}
 use Rattle.table.specs.Steps.{Absent, FirstAt}
 use Rattle.table.proofs.Laws.{absent-stored, found-stored}
 use Rattle.pairs.specs.Pairs.{PairsAt, allStored}
 use Rattle.pairs.proofs.Walking.{Next, next-pair, pairs-end, same-pairs, index-same, end-same}
 
 module _ (indices : List ℕ) (n : ℕ) where
-  abbrev columns : List ℕ → List ℕ → Table
-  columns starts counts = record { indices = indices; starts = starts; counts = counts; stored = n; used = 0 }
-
   abbrev pub store : List ℕ → List ℕ → List ℕ → Store
-  store starts counts pool = storeOf (columns starts counts) pool
+  store starts counts pool = storeOfColumns indices starts counts pool n
 
   -- the pairs at i that are left settle the answer, whatever polynomials stand there
   pub record AllLeft (s : Bytes) (at i : ℕ) : Type 0 where
@@ -50,12 +46,12 @@ module _ (indices : List ℕ) (n : ℕ) where
 
       pub all-missing : Absent indices n x → (qs : List Pair) → PairsAt s at qs → (starts counts pool : List ℕ) → false ≡ allStored (store starts counts pool) qs
       all-missing d qs w ss cs pool =
-          sym (first false ss cs pool (absent-stored (columns ss cs) pool x d)) ∙ a .same qs w ss cs pool
+          sym (first false ss cs pool (absent-stored indices ss cs pool n x d)) ∙ a .same qs w ss cs pool
 
       pub all-more : {j e : ℕ} → FirstAt indices n x j → FieldEnd s (m + 1) e → AllLeft s at e
       all-more {j} d f = record {
         left = next .tail;
         reads = subst (λ (k : ℕ). PairsAt s k (next .tail)) (end-same next g (f .taken)) (next .rest);
         same = λ qs w ss cs pool.
-            sym (first true ss cs pool (found-stored (columns ss cs) pool x j d)) ∙ a .same qs w ss cs pool;
+            sym (first true ss cs pool (found-stored indices ss cs pool n x j d)) ∙ a .same qs w ss cs pool;
       }

@@ -3,7 +3,7 @@ use mathlib.Core.Path.{_≡_, refl, sym, ap, ap₂, subst, _∙_}
 use mathlib.Core.Bool.{Bool, true, false, _&&_, not, cond}
 use mathlib.Core.Logic.{⊎-elim}
 use mathlib.Core.List.{List, [], _∷_, _++_, map, append-nil, append-assoc}
-use Prim.Native.Nat.{ℕ, _+_, _-_, _*_, _≤_, _<_}
+use Prim.Native.Nat.{ℕ, _+_, _*_, _≤_, _<_}
 use native.Mathlib.Omega.{arith}
 use lib.Bits.{bitOr, or-comm}
 use lib.Dec.{ltb}
@@ -17,12 +17,12 @@ use Rattle.algebra.specs.Polynomial.{Poly, products, vars, allVars}
 use Rattle.algebra.proofs.Unions.{or-assoc}
 use Rattle.words.specs.Words.{number}
 use Rattle.terms.specs.Terms.{decode, rounded}
+use Rattle.terms.proofs.Rounding.{rounded-append}
 use Rattle.paper.specs.Grammar.{Bytes, pair}
 use Rattle.paper.specs.Statement.{Pair, reduced}
 use Rattle.paper.specs.Rules.{Store, stored, find, combination}
 use Rattle.reader.proofs.Fields.{same-end}
 use Rattle.fields.proofs.Taking.{same-value}
-use Rattle.regions.proofs.Squares.{rounded-append}
 use Rattle.pairs.specs.declared.Sum.{Sum}
 use Rattle.pairs.specs.declared.Added.{Added}
 use Rattle.pairs.specs.Pairs.{PairsAt, allStored, productsOf, refuses, Summed, Kept, Extended, PairAdded}

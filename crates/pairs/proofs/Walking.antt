@@ -3,27 +3,27 @@ use mathlib.Core.Path.{_≡_, refl, sym, ap, _∙_, subst}
 use mathlib.Core.Bool.{Bool, true, _&&_}
 use mathlib.Core.Logic.{⊎-elim}
 use mathlib.Core.List.{List, [], _∷_}
-use Prim.Native.Nat.{ℕ, _+_, _^_, _≤_, _<_}
+use Prim.Native.Nat.{ℕ, _+_, _≤_, _<_}
 use Prim.Native.Char.{code}
 use native.Mathlib.Omega.{arith}
-use lib.Dec.{eqb, ltb, leb}
+use lib.Dec.{eqb, ltb}
 use lib.ListN.{length, drop, getD, length-drop, drop-of-length-le}
-use lib.Seq.{drop-cons, drop-drop}
-use borrow.Author.Tests.{ltb-true, ltb-false, lt-ltb, eqb-true, eqb-false, leb-true}
+use lib.Seq.{drop-cons}
+use borrow.Author.Tests.{ltb-true, ltb-false, eqb-true, eqb-false}
 use Rattle.ground.specs.Lists.{every}
-use Rattle.ground.proofs.Tests.{split, and-left, and-right, and-both}
-use Rattle.limits.specs.Limits.{greatestIndex}
-use Rattle.paper.specs.Grammar.{Bytes, bytes, Read, got, stuck, each, decimal, polynomial, tab, field, pair}
+use Rattle.ground.proofs.Tests.{split, and-left, and-right}
+use Rattle.paper.specs.Grammar.{Bytes, Read, got, stuck, each, decimal, polynomial, field, pair}
 use Rattle.paper.specs.Statement.{Written, Pair, isIndex, inRange}
-use Rattle.paper.proofs.Reading.{parted, takes-decimal, takes-polynomial, takes-pair, literal-inside, each-more, each-stuck, each-stop, each-end}
+use Rattle.paper.proofs.Reading.{parted, takes-decimal, takes-polynomial, takes-pair, each-more, each-stuck, each-stop, each-end}
 use Rattle.reader.specs.Places.{Got}
 use Rattle.reader.specs.Fields.{fewTerms}
 use Rattle.reader.specs.Lines.{pairRanged, pairFew, morePairs}
 use Rattle.reader.specs.Search.{EndsField, WholeField}
-use Rattle.reader.proofs.Fields.{placed, same-end}
-use Rattle.fields.specs.Fields.{Good, isWord, isField}
+use Rattle.reader.proofs.Fields.{tabbed, placed, same-end}
+use Rattle.fields.specs.Fields.{Good, isSmall, isField}
+use Rattle.fields.proofs.Ranges.{small-index, is-field}
 use Rattle.fields.proofs.Taking.{same-value, same-rest, not-both}
-use Rattle.pairs.specs.Pairs.{isSmall, PairsAt}
+use Rattle.pairs.specs.Pairs.{PairsAt}
 
 -- ---- a pair taken apart
 pub record PairParts (s : Bytes) (at : ℕ) (q : Pair) (e : ℕ) : Type 0 where
@@ -33,21 +33,14 @@ pub record PairParts (s : Bytes) (at : ℕ) (q : Pair) (e : ℕ) : Type 0 where
   pub tabbed : middle < length s
   pub factor : Got polynomial s (middle + 1) (q .factor) e
 
-tab-parts : (s : Bytes) (m : ℕ) (p : Written) (r : Bytes) → field (drop m s) ≡ got p r → (m < length s) × (polynomial (drop (m + 1) s) ≡ got p r)
-unfolding field tab bytes
-tab-parts s m p r e =
-    let t = parted (tab (drop m s)) _ e in
-    let l = literal-inside (bytes "\t") (drop m s) (t .value) (t .rest) (t .first) in
-    (omega (arith, l .0, length-drop m s), ap polynomial (sym (l .1 ∙ drop-drop 1 m s)) ∙ t .second)
-
 pair-parts : (s : Bytes) (at : ℕ) (q : Pair) (r : Bytes) → at ≤ length s → pair (drop at s) ≡ got q r → (e : ℕ) × PairParts s at q e × (r ≡ drop e s)
-unfolding pair
+unfolding pair field
 pair-parts s at q r h e =
     let p = parted (decimal (drop at s)) _ e in
     let i = placed decimal takes-decimal s at h (p .value) (p .rest) (p .first) in
     let f = parted (field (p .rest)) _ (p .second) in
-    let t = tab-parts s (i .0) (f .value) (f .rest) (ap field (sym (i .3)) ∙ f .first) in
-    let w = placed polynomial takes-polynomial s (i .0 + 1) (omega (arith, t .0)) (f .value) (f .rest) (t .1) in
+    let t = tabbed polynomial s (i .0) (ap field (sym (i .3)) ∙ f .first) in
+    let w = placed polynomial takes-polynomial s (i .0 + 1) (omega (arith, t .inside)) (f .value) (f .rest) (t .reads) in
     let x : record { index = p .value; factor = f .value } ≡ q = (let y = f .second in cc) in
     let z : f .rest ≡ r = (let y = f .second in cc) in
     let v : r ≡ drop (w .0) s = subst (λ (l : Bytes). l ≡ drop (w .0) s) z (w .3) in (
@@ -55,7 +48,7 @@ pair-parts s at q r h e =
       record {
         middle = i .0;
         index = subst (λ (u : Pair). Got decimal s at (u .index) (i .0)) x (i .2);
-        tabbed = t .0;
+        tabbed = t .inside;
         factor = subst (λ (u : Pair). Got polynomial s (i .0 + 1) (u .factor) (w .0)) x (w .2);
       },
       v,
@@ -75,11 +68,11 @@ pub record Next (s : Bytes) (at : ℕ) (qs : List Pair) : Type 0 where
 
 -- what a pair in front of others, and these, are checked to be
 head-ranged : (q : Pair) (qs : List Pair) → every pairRanged (q ∷ qs) ≡ true → every pairFew (q ∷ qs) ≡ true → (isIndex (q .index) ≡ true) × (isField (q .factor) ≡ true)
-unfolding every pairRanged pairFew isField
+unfolding every pairRanged pairFew
 head-ranged q qs e f =
     let a = and-left (isIndex (q .index) && inRange (q .factor)) (every pairRanged qs) e in (
       and-left (isIndex (q .index)) (inRange (q .factor)) a,
-      and-both (inRange (q .factor)) (fewTerms (q .factor)) (and-right (isIndex (q .index)) (inRange (q .factor)) a) (and-left (fewTerms (q .factor)) (every pairFew qs) f),
+      is-field (q .factor) (and-right (isIndex (q .index)) (inRange (q .factor)) a) (and-left (fewTerms (q .factor)) (every pairFew qs) f),
     )
 
 tail-every : (f : Pair → Bool) (q : Pair) (qs : List Pair) → every f (q ∷ qs) ≡ true → every f qs ≡ true
@@ -133,22 +126,6 @@ module _ {s : Bytes} {at : ℕ} {qs : List Pair} (w : PairsAt s at qs) where
 
 pub same-pairs : {s : Bytes} {at : ℕ} {qs rs : List Pair} → PairsAt s at qs → PairsAt s at rs → qs ≡ rs
 same-pairs w v = same-value (w .reads) (v .reads)
-
--- ---- numbers that half a word holds
-pub small-index : (i : ℕ) → isIndex i ≡ true → isSmall i ≡ true
-unfolding isIndex isSmall
-small-index i e = and-right (leb 1 i) (leb i greatestIndex) e
-
-is-small : (n : ℕ) → isSmall n ≡ true → n ≤ greatestIndex
-unfolding isSmall
-is-small n e = leb-true n greatestIndex e
-
-pub small-word : (n : ℕ) → isSmall n ≡ true → isWord n ≡ true
-unfolding isWord
-small-word n e = let l = is-small n e in lt-ltb n (2 ^ 64) (omega arith)
-
-pub small-got : {s : Bytes} {at n e : ℕ} → Good decimal isSmall s at → Got decimal s at n e → n ≤ greatestIndex
-small-got {n = n} g t = let e : g .value ≡ n = same-value (g .reads) (t .reads) in omega (arith, is-small (g .value) (g .passes))
 
 -- ---- what the readers of an index and of a factor ask for
 module _ {s : Bytes} {at : ℕ} {qs : List Pair} (n : Next s at qs) where

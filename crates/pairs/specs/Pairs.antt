@@ -4,11 +4,11 @@ use mathlib.Core.Bool.{Bool, true, false, not, cond}
 use mathlib.Core.List.{List, [], _++_, map}
 use Prim.Native.Nat.{ℕ, _+_, _-_, _*_, _≤_, _<_}
 use lib.Bits.{bitOr}
-use lib.Dec.{ltb, leb}
+use lib.Dec.{ltb}
 use lib.ListN.{length, drop, getD}
 use Rattle.ground.specs.Lists.{every, total}
 use Rattle.words.specs.Parts.{part}
-use Rattle.limits.specs.Limits.{greatestIndex, storedPolynomials, lineProducts, termWords, mostPoolTerms}
+use Rattle.limits.specs.Limits.{storedPolynomials, lineProducts, termWords, mostPoolTerms}
 use Rattle.limits.specs.Verdicts.{ACCEPTED, MISSING, PRODUCTS}
 use Rattle.algebra.specs.Polynomial.{Poly, products, vars, allVars}
 use Rattle.words.specs.Words.{number}
@@ -22,10 +22,6 @@ use Rattle.table.specs.Table.{PackedColumns}
 use Rattle.regions.specs.Regions.{statedAt, factorAt, goalAt}
 use Rattle.pairs.specs.declared.Sum.{Sum}
 use Rattle.pairs.specs.declared.Added.{Added}
-
--- a number that half a word holds: every index, ring and variable is one
-unfoldable pub isSmall : ℕ → Bool
-isSmall n = leb n greatestIndex
 
 -- the pairs from the tab at `at` to the end of the line, in range and short
 pub record PairsAt (line : Bytes) (at : ℕ) (qs : List Pair) : Type 0 where

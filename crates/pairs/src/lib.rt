@@ -10,12 +10,10 @@ ghost use Rattle.algebra.specs.Polynomial.{products};
 ghost use Rattle.words.specs.Words.{number};
 ghost use Rattle.terms.specs.Terms.{decode, rounded, Appended};
 ghost use Rattle.paper.specs.Statement.{Pair};
-ghost use Rattle.paper.specs.Grammar.{decimal};
-ghost use Rattle.reader.specs.Places.{Got};
-ghost use Rattle.fields.specs.Fields.{Good};
-ghost use Rattle.table.specs.Table.{polyAt, firsts, entryAt};
+ghost use Rattle.table.specs.Table.{polyAt, storeOfColumns};
 ghost use Rattle.regions.specs.Regions.{factorAt, goalAt};
-ghost use Rattle.pairs.specs.Pairs.{isSmall, PairsAt, PoolHolds, allStored, Summed, Lies, Extended, PairAdded};
+ghost use Rattle.pairs.specs.Pairs.{PairsAt, PoolHolds, allStored, Summed, Lies, Extended, PairAdded};
+use fields::small_at;
 use table::Column;
 use table::Found;
 use table::Indices;
@@ -34,30 +32,12 @@ struct Added {
     end: usize,
 }
 
-// A number that half a word holds, and its end.
-pub struct Small {
-    pub value: u32,
-    pub end: usize,
-}
-
-// The number at at: an index, a ring or a variable.
-pub fn small_at(line: &[u8], at: usize) -> Small
-    requires { ⌜ Good decimal isSmall (now line) at ⌝ }
-    ensures { λ r. ⌜ Got decimal (now (line .entry)) at (r .value) (r .end) ⌝ }
-{
-    let d = fields::take_decimal(line, at);
-    Small {
-        value: d.value as u32,
-        end: d.end,
-    }
-}
-
 // Whether every pair from the tab at at on names one of the first n indices of a column.
 fn all_stored(indices: &Indices, n: usize, line: &[u8], at: usize) -> bool
     requires { ⌜ (n ≤ storedPolynomials) × ((qs : List Pair) × PairsAt (now line) at qs) ⌝ }
     ensures { λ r. ⌜
         ((qs : List Pair) → PairsAt (now (line .entry)) at qs → (starts counts pool : List ℕ)
-        → r ≡ allStored (firsts (entryAt (now (indices .entry)) starts counts pool) n) qs)
+        → r ≡ allStored (storeOfColumns (now (indices .entry)) starts counts pool n) qs)
         ⌝ }
 {
     let mut i = at;
@@ -151,7 +131,7 @@ fn add_pair(
         × PoolHolds (now starts) (now counts) n (now pool) × (leastScratch ≤ length (now scratch))
         × (1 ≤ k) × (k ≤ 64) × (sum .terms ≤ lineProducts)
         ⌝ }
-    ensures { λ r. ⌜ PairAdded k (firsts (entryAt (now (indices .entry)) (now (starts .entry)) (now (counts .entry)) (now (pool .entry))) n) (now (line .entry)) at (sum .terms) (number (sum .seen)) (now (scratch .entry)) (now (scratch .exit)) r ⌝ }
+    ensures { λ r. ⌜ PairAdded k (storeOfColumns (now (indices .entry)) (now (starts .entry)) (now (counts .entry)) (now (pool .entry)) n) (now (line .entry)) at (sum .terms) (number (sum .seen)) (now (scratch .entry)) (now (scratch .exit)) r ⌝ }
 {
     let x = small_at(line, at + 1);
     let found = table::find(indices, n, x.value);
@@ -175,7 +155,7 @@ fn stopped(indices: &Indices, n: usize, line: &[u8], a: Added) -> Sum
     requires { ⌜ (n ≤ storedPolynomials) × ((qs : List Pair) × PairsAt (now line) (a .end) qs) ⌝ }
     ensures { λ r. ⌜
         ((qs : List Pair) → PairsAt (now (line .entry)) (a .end) qs → (starts counts pool : List ℕ)
-        → r .verdict ≡ cond (allStored (firsts (entryAt (now (indices .entry)) starts counts pool) n) qs) (a .sum .verdict) MISSING)
+        → r .verdict ≡ cond (allStored (storeOfColumns (now (indices .entry)) starts counts pool n) qs) (a .sum .verdict) MISSING)
         ⌝ }
 {
     let sum = a.sum;
@@ -205,7 +185,7 @@ pub fn sum_pairs(
         ⌝ }
     ensures { λ r. ⌜
         ((qs : List Pair) → PairsAt (now (line .entry)) at qs
-        → Summed k (firsts (entryAt (now (indices .entry)) (now (starts .entry)) (now (counts .entry)) (now (pool .entry))) n) qs (number seen) (now (scratch .entry)) (now (scratch .exit)) r)
+        → Summed k (storeOfColumns (now (indices .entry)) (now (starts .entry)) (now (counts .entry)) (now (pool .entry)) n) qs (number seen) (now (scratch .entry)) (now (scratch .exit)) r)
         ⌝ }
 {
     let mut sum = Sum {

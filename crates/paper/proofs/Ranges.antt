@@ -1,13 +1,22 @@
--- What the tests of ranges say of a term, and choices by a test. Assumes nothing.
+-- What the tests of ranges say of a ring and of a term, and choices by a test. Assumes nothing.
 use mathlib.Core.Path.{_≡_, ap}
 use mathlib.Core.Bool.{Bool, true, false, _&&_, cond}
-use Prim.Native.Nat.{_≤_}
+use Prim.Native.Nat.{ℕ, _≤_}
 use lib.Dec.{leb}
 use borrow.Author.Tests.{leb-true}
 use Rattle.ground.specs.Lists.{every}
 use Rattle.ground.proofs.Tests.{and-left, and-right}
-use Rattle.limits.specs.Limits.{greatestMagnitude}
-use Rattle.paper.specs.Statement.{WrittenTerm, isVariable, isTerm}
+use Rattle.limits.specs.Limits.{greatestRing, greatestMagnitude}
+use Rattle.paper.specs.Statement.{WrittenTerm, isRing, isVariable, isTerm}
+
+module _ (k : ℕ) (e : isRing k ≡ true) where
+  pub ring-some : 1 ≤ k
+  unfolding isRing
+  ring-some = leb-true 1 k (and-left (leb 1 k) (leb k greatestRing) e)
+
+  pub ring-most : k ≤ greatestRing
+  unfolding isRing
+  ring-most = leb-true k greatestRing (and-right (leb 1 k) (leb k greatestRing) e)
 
 pub record TermInRange (t : WrittenTerm) : Type 0 where
   pub some : 1 ≤ t .magnitude

@@ -55,7 +55,7 @@ tab-at s m u r e =
     let t : take 1 (getD s m 0 ∷ drop (suc m) s) ≡ 9 ∷ [] = rw d at (h .2) in
     (l, (cc), h .1 ∙ drop-drop 1 m s)
 
-tabbed : {A : Type 0} (read : Reader A) (s : Bytes) (m : ℕ) {x : A} {r : Bytes} → next (tab (drop m s)) (λ _. read) ≡ got x r → Tabbed read s m x r
+pub tabbed : {A : Type 0} (read : Reader A) (s : Bytes) (m : ℕ) {x : A} {r : Bytes} → next (tab (drop m s)) (λ _. read) ≡ got x r → Tabbed read s m x r
 tabbed read s m {x} {r} e =
     let p = parted (tab (drop m s)) (λ _. read) e in
     let h = tab-at s m (p .value) (p .rest) (p .first) in
@@ -230,7 +230,8 @@ by-kind : (s : Bytes) (st : Statement) (r : Bytes) (k : LineKind) (ks : List Lin
     → oneOf (k ∷ ks) s ≡ got st r → FieldsAt s [] st
 by-kind s st r k ks f g e = ⊎-elim (λ w. f (whole-headed k s st r w)) g (one-or-other k ks s (got st r) e)
 
-short-of : {st : Statement} {r : Bytes} (x : Read Statement) → next x (λ _ t. stuck t) ≡ got st r → ⊥
+-- only a line with its byte 10 can be read
+pub short-of : {st : Statement} {r : Bytes} (x : Read Statement) → next x (λ _ t. stuck t) ≡ got st r → ⊥
 short-of (got y t) e = clash e
 short-of (stuck t) e = clash e
 

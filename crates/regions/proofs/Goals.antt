@@ -12,7 +12,7 @@ use Rattle.limits.specs.Limits.{termWords}
 use Rattle.algebra.specs.Polynomial.{Poly, equal}
 use Rattle.terms.specs.Terms.{decode}
 use Rattle.paper.specs.Rules.{Entry, Store, holdsGoal}
-use Rattle.table.specs.Table.{firsts, polyAt, entryAt, PackedColumns}
+use Rattle.table.specs.Table.{firsts, polyAt, entryAt, storeOfColumns, PackedColumns}
 use Rattle.table.proofs.Firsts.{behind, firsts-more, firsts-split}
 use Rattle.table.proofs.Packing.{ends-used}
 
@@ -37,7 +37,7 @@ stored-words starts counts pool stored j p h = omega (arith, ends-used starts co
 
 -- none of the first j is g, whatever their indices
 pub record NoneIs (starts counts pool : List ℕ) (g : Poly) (j : ℕ) : Type 0 where
-  pub under : (indices : List ℕ) → holdsGoal g (firsts (entryAt indices starts counts pool) j) ≡ false
+  pub under : (indices : List ℕ) → holdsGoal g (storeOfColumns indices starts counts pool j) ≡ false
 
 module _ {starts counts pool : List ℕ} {g : Poly} where
   pub none-start : NoneIs starts counts pool g 0
@@ -50,16 +50,16 @@ module _ {starts counts pool : List ℕ} {g : Poly} where
     unfolding holdsGoal any
     none-more f = record { under = more }
       where
-        more : (indices : List ℕ) → holdsGoal g (firsts (entryAt indices starts counts pool) (j + 1)) ≡ false
+        more : (indices : List ℕ) → holdsGoal g (storeOfColumns indices starts counts pool (j + 1)) ≡ false
         more indices =
             let at : ℕ → Entry = entryAt indices starts counts pool in
             ap (holdsGoal g) (firsts-more at j) ∙ holds-append g (firsts at j) (at j ∷ []) ∙ rw (none .under indices, ← e, f)
 
-    pub one-is : (stored : ℕ) → j < stored → t ≡ true → (indices : List ℕ) → true ≡ holdsGoal g (firsts (entryAt indices starts counts pool) stored)
+    pub one-is : (stored : ℕ) → j < stored → t ≡ true → (indices : List ℕ) → true ≡ holdsGoal g (storeOfColumns indices starts counts pool stored)
     unfolding holdsGoal any
     one-is stored h f indices =
         let at : ℕ → Entry = entryAt indices starts counts pool in
         sym (ap (holdsGoal g) (firsts-split at j stored h) ∙ holds-append g (firsts at j) (at j ∷ behind at j stored) ∙ rw (none .under indices, ← e, f))
 
-  pub none-end : {j stored : ℕ} → j ≡ stored → NoneIs starts counts pool g j → (indices : List ℕ) → false ≡ holdsGoal g (firsts (entryAt indices starts counts pool) stored)
-  none-end e none indices = sym (subst (λ (n : ℕ). holdsGoal g (firsts (entryAt indices starts counts pool) n) ≡ false) e (none .under indices))
+  pub none-end : {j stored : ℕ} → j ≡ stored → NoneIs starts counts pool g j → (indices : List ℕ) → false ≡ holdsGoal g (storeOfColumns indices starts counts pool stored)
+  none-end e none indices = sym (subst (λ (n : ℕ). holdsGoal g (storeOfColumns indices starts counts pool n) ≡ false) e (none .under indices))

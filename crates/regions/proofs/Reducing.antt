@@ -6,15 +6,12 @@ use Prim.Native.Nat.{ℕ, _+_, _-_, _*_, _^_, _≤_, _<_}
 use native.Mathlib.Nat.{mul-one}
 use native.Mathlib.Omega.{arith}
 use lib.Bits.{bitOr, or-zero-r}
-use lib.Dec.{ltb}
 use lib.ListN.{length, drop}
 use lib.Seq.{paste}
-use borrow.Author.Tests.{not-true, ltb-false}
 use borrow.Rule.Slice.PartMut.{putMid}
 use Rattle.ground.proofs.Congruence.{Same, same-refl, same-eq, same-add, _⊳_}
 use Rattle.words.specs.Parts.{part, Within}
 use Rattle.words.proofs.Parts.{within-trans, within-wider, length-part, put-part, put-within}
-use Rattle.ground.proofs.Tests.{and-left, and-right}
 use Rattle.limits.specs.Limits.{fieldTerms, termWords}
 use Rattle.algebra.specs.Polynomial.{Term, Poly, sumIf, reduce, extension}
 use Rattle.algebra.proofs.Values.{keep, sumIf-append}
@@ -24,10 +21,10 @@ use Rattle.words.proofs.Wrap.{same-negative}
 use Rattle.terms.specs.Terms.{termOf, decode, Leaves}
 use Rattle.terms.proofs.Decode.{decode-part, behind-within, decode-behind}
 use Rattle.paper.specs.Grammar.{Bytes, polynomial}
-use Rattle.paper.specs.Statement.{Written, inRange, tooManyTerms}
-use Rattle.reader.specs.Fields.{fewTerms}
+use Rattle.paper.specs.Statement.{Written}
 use Rattle.fields.specs.Fields.{Good, isField, FieldAt}
 use Rattle.fields.specs.declared.FieldRun.{FieldRun}
+use Rattle.fields.proofs.Ranges.{field-range, field-most}
 use Rattle.fields.proofs.Meaning.{worded-reduced}
 use Rattle.fields.proofs.Taking.{same-value}
 use Rattle.regions.specs.Regions.{statedAt, factorAt, ReducedAt, StatedIs}
@@ -41,14 +38,6 @@ module _ (a e n m : ℕ) (q : Poly) (s y : List ℕ) (h : a ≤ e) (l : e ≤ le
   lent-within = put-within s y a e h l (c .within .same)
 
 -- ---- a field
-field-ranged : (p : Written) → isField p ≡ true → inRange p ≡ true
-unfolding isField
-field-ranged p e = and-left (inRange p) (fewTerms p) e
-
-field-few : (p : Written) → isField p ≡ true → length p ≤ fieldTerms
-unfolding isField fewTerms tooManyTerms
-field-few p e = ltb-false fieldTerms (length p) (not-true (ltb fieldTerms (length p)) (and-right (inRange p) (fewTerms p) e))
-
 -- a field that was read into the region of s from base on, which came back as y
 module _ (line : Bytes) (at base : ℕ) (s y : List ℕ) (f : FieldRun) (g : Good polynomial isField line at) (l : base + fieldTerms * termWords ≤ length s)
     (r : FieldAt line at (part base (base + fieldTerms * termWords - base) s) y f) where
@@ -62,7 +51,7 @@ module _ (line : Bytes) (at base : ℕ) (s y : List ℕ) (f : FieldRun) (g : Goo
   field = subst (λ (p : Written). isField p ≡ true) (same-value (g .reads) (r .taken .reads)) (g .passes)
 
   few : f .terms ≤ fieldTerms
-  few = omega (arith, r .terms, field-few (r .value) field)
+  few = omega (arith, r .terms, field-most (r .value) field)
 
   change : Within base e s x
   change = put-within s y base e (omega arith) l (r .within .same)
@@ -77,7 +66,7 @@ module _ (line : Bytes) (at base : ℕ) (s y : List ℕ) (f : FieldRun) (g : Goo
     taken = r .taken;
     run = lent-run base e (f .terms) m _ x z (omega arith) long room c
         ∙ ap (λ (w : List ℕ). reduce k (decode (f .terms) w)) (put-part s y base e (omega arith) l (r .within .same))
-        ∙ ap (reduce k) (r .run) ∙ worded-reduced k h (r .value) (field-ranged (r .value) field);
+        ∙ ap (reduce k) (r .run) ∙ worded-reduced k h (r .value) (field-range (r .value) field);
     few = omega (arith, c .few, few);
     within = within-trans change (lent-within base e (f .terms) m _ x z (omega arith) long room c);
   }

@@ -1,9 +1,9 @@
 -- The products of one run with another, row by row, and of a run with itself. Assumes nothing.
-use mathlib.Core.Path.{_≡_, refl, sym, ap, ap₂, _∙_}
+use mathlib.Core.Path.{_≡_, sym, ap, ap₂, _∙_}
 use mathlib.Core.Bool.{Bool}
 use mathlib.Core.List.{List, [], _∷_, _++_, append-nil, append-assoc}
 use mathlib.Core.Logic.{⊎-elim}
-use Prim.Native.Nat.{ℕ, _+_, _*_, _%_, _^_, _≤_, _<_}
+use Prim.Native.Nat.{ℕ, _+_, _*_, _≤_, _<_}
 use native.Mathlib.Nat.{zero-mul, mul-le-mul-right, mul-le-mul}
 use native.Mathlib.Omega.{arith}
 use lib.Dec.{ltb}
@@ -18,13 +18,8 @@ use Rattle.algebra.specs.Polynomial.{Term, Poly, times, products, equal, reduce
 use Rattle.terms.specs.Terms.{termOf, decode, rounded, Leaves, Appended}
 use Rattle.terms.proofs.Decode.{decode-last, decode-above}
 use Rattle.terms.proofs.Runs.{equal-swap}
-use Rattle.terms.proofs.Rounding.{reduce-rounded}
+use Rattle.terms.proofs.Rounding.{rounded-append, reduce-rounded}
 use Rattle.regions.specs.Regions.{statedAt}
-
-pub rounded-append : (p q : Poly) → rounded (p ++ q) ≡ rounded p ++ rounded q
-unfolding rounded
-rounded-append [] q = refl
-rounded-append (t ∷ p) q = ap (λ (r : Poly). record { set = t .set; coef = t .coef % 2 ^ 64 } ∷ r) (rounded-append p q)
 
 products-last : (p q : Poly) (t : Term) → products (p ++ (t ∷ [])) q ≡ products p q ++ times t q
 unfolding products

@@ -10,7 +10,7 @@ ghost use Rattle.terms.specs.Terms.{decode, rounded, Leaves};
 ghost use Rattle.paper.specs.Grammar.{polynomial};
 ghost use Rattle.paper.specs.Rules.{holdsGoal};
 ghost use Rattle.fields.specs.Fields.{Good, isField};
-ghost use Rattle.table.specs.Table.{PackedColumns, firsts, entryAt};
+ghost use Rattle.table.specs.Table.{PackedColumns, storeOfColumns};
 ghost use Rattle.regions.specs.Regions.{statedAt, goalAt, ReducedAt, StatedIs};
 use fields::FieldRun;
 use table::Column;
@@ -54,7 +54,7 @@ pub fn is_stored<'a>(
         ((used : ℕ) × PackedColumns (now starts) (now counts) stored used × (used * termWords ≤ length (now pool)))
         × (n * termWords ≤ length (now goal))
         ⌝ }
-    ensures { λ r. ⌜ ((indices : List ℕ) → r ≡ holdsGoal (decode n (now (goal .entry))) (firsts (entryAt indices (now (starts .entry)) (now (counts .entry)) (now (pool .entry))) stored)) ⌝ }
+    ensures { λ r. ⌜ ((indices : List ℕ) → r ≡ holdsGoal (decode n (now (goal .entry))) (storeOfColumns indices (now (starts .entry)) (now (counts .entry)) (now (pool .entry)) stored)) ⌝ }
 {
     let mut j = 0;
     while j < stored {

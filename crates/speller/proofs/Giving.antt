@@ -7,7 +7,7 @@ use native.Mathlib.Nat.{zero-add}
 use native.Mathlib.Omega.{arith}
 use lib.Dec.{eqb, leb, ltb}
 use lib.ListN.{length, drop, getD, replicate}
-use borrow.Author.Tests.{leb-true, leb-false, lt-ltb, le-ltb, ltb-false}
+use borrow.Author.Tests.{leb-true, leb-false, lt-ltb, le-ltb}
 use Rattle.limits.specs.Limits.{fieldTerms, termWords, lineBytes, leastSpellingScratch}
 use Rattle.limits.specs.Verdicts.{ACCEPTED, SHORT, LONGLINE, FULL}
 use Rattle.algebra.specs.Polynomial.{Poly, reduce, Reduced}
@@ -15,18 +15,19 @@ use Rattle.algebra.proofs.Reduced.{reduced-reduce}
 use Rattle.algebra.proofs.Sums.{bound, below-bound}
 use Rattle.terms.specs.Terms.{none, decode, Leaves}
 use Rattle.paper.specs.Grammar.{Bytes, polynomial}
-use Rattle.paper.specs.Statement.{Written, tooManyTerms, asTerm, reduced}
+use Rattle.paper.specs.Statement.{asTerm, reduced}
 use Rattle.paper.specs.Spelling.{Spelled, refuse, spell, spellRead, wholeField, spellField, outputAfter, scratchAfter}
-use Rattle.paper.proofs.Ranges.{cond-yes, cond-no}
+use Rattle.paper.proofs.Ranges.{ring-most, cond-yes, cond-no}
 use Rattle.fields.specs.Worded.{worded}
 use Rattle.fields.specs.Fields.{Good, isField, FieldAt}
 use Rattle.fields.specs.declared.FieldRun.{FieldRun}
+use Rattle.fields.proofs.Ranges.{field-range, field-most}
 use Rattle.fields.proofs.Taking.{same-value}
 use Rattle.fields.proofs.Meaning.{worded-reduced}
 use Rattle.writer.specs.Writing.{written, Wrote, Cut}
 use Rattle.speller.specs.Spells.{Gives, Spells, fitted, Accepts, Holds}
 use Rattle.speller.specs.declared.Spelled.{Spelled as Answer}
-use Rattle.speller.proofs.Judging.{ring-most, field-range, field-few, accepted-fitted, not-short}
+use Rattle.speller.proofs.Judging.{accepted-fitted, not-short}
 
 -- ---- refused, or written
 pub gives-as : {x y : Spelled} {out out′ : Bytes} {r : Answer} → x ≡ y → Gives x out out′ r → Gives y out out′ r
@@ -49,10 +50,6 @@ module _ (w out : Bytes) where
       (record { verdict = refl; written = h .next ∙ zero-add (length w); output = h .bytes ∙ ap (λ (i : ℕ). w ++ drop i out) (zero-add (length w)) })
 
 -- ---- the run
-few-terms : (p : Written) → tooManyTerms p ≡ false → length p ≤ fieldTerms
-unfolding tooManyTerms
-few-terms p e = ltb-false fieldTerms (length p) e
-
 pub accepts-good : (field : Bytes) (k : ℕ) → Accepts field k → Good polynomial isField field 0
 accepts-good field k a = record { value = a .value; rest = []; reads = a .reads; passes = a .passes; inside = omega arith }
 
@@ -61,7 +58,7 @@ module _ (field : Bytes) (k : ℕ) (a : Accepts field k) (scratch mid : List ℕ
   same = same-value (r .taken .reads) (a .reads)
 
   few : f .terms ≤ fieldTerms
-  few = omega (arith, r .terms, ap length same, few-terms (a .value) (field-few (a .value) (a .passes)))
+  few = omega (arith, r .terms, ap length same, field-most (a .value) (a .passes))
 
   pub field-room : leastSpellingScratch ≤ length scratch → f .terms * termWords ≤ length mid
   field-room h = omega (arith, few, r .within .same)

@@ -4,10 +4,10 @@ use mathlib.Core.Bool.{Bool, true, false, _&&_, not, cond, and-false}
 use mathlib.Core.List.{[], _∷_}
 use Prim.Native.Nat.{ℕ, _≤_, _<_}
 use native.Mathlib.Omega.{arith}
-use lib.Dec.{eqb, leb, ltb}
+use lib.Dec.{eqb, ltb}
 use lib.ListN.{length, drop, length-drop, drop-of-length-le}
-use borrow.Author.Tests.{leb-true, not-true, not-false}
-use Rattle.ground.proofs.Tests.{by-cond, and-left, and-right, and-both}
+use borrow.Author.Tests.{not-false}
+use Rattle.ground.proofs.Tests.{by-cond, and-both}
 use Rattle.limits.specs.Limits.{greatestRing}
 use Rattle.limits.specs.Verdicts.{ACCEPTED, SHORT, FORM, NUMBER, TERMS, FULL}
 use Rattle.paper.specs.Grammar.{Bytes, Read, got, stuck, next, end, polynomial}
@@ -18,7 +18,7 @@ use Rattle.paper.proofs.ReadBack.{whole-end}
 use Rattle.reader.specs.Places.{Fails}
 use Rattle.reader.specs.Fields.{fewTerms, Scanned}
 use Rattle.reader.proofs.Numbers.{within-yes, within-below, within-above}
-use Rattle.fields.specs.Fields.{isField}
+use Rattle.fields.proofs.Ranges.{is-field, field-range, field-few}
 use Rattle.speller.specs.Spells.{fitted, Accepts, Judged}
 
 -- ---- k
@@ -34,14 +34,6 @@ module _ (k : ℕ) where
   pub ring-inside : 1 ≤ k → k ≤ greatestRing → isRing k ≡ true
   unfolding isRing
   ring-inside h l = within-yes 1 greatestRing k h l
-
-  pub ring-some : isRing k ≡ true → 1 ≤ k
-  unfolding isRing
-  ring-some e = leb-true 1 k (and-left (leb 1 k) (leb k greatestRing) e)
-
-  pub ring-most : isRing k ≡ true → k ≤ greatestRing
-  unfolding isRing
-  ring-most e = leb-true k greatestRing (and-right (leb 1 k) (leb k greatestRing) e)
 
 -- ---- the whole field
 whole-stuck : (s t : Bytes) → polynomial s ≡ stuck t → wholeField s ≡ stuck t
@@ -117,26 +109,17 @@ module _ (field : Bytes) (k : ℕ) where
             (λ room. whole room ∙ request-terms k room (s .value) (and-both (isRing k) (inRange (s .value)) g (sym (s .in-range) ∙ r)) (not-false (tooManyTerms (s .value)) (sym (s .short) ∙ n)))
 
         pub judged-accepted : b ≡ true → Judged field k ACCEPTED
-        unfolding isField
         judged-accepted t = record {
           refused = λ n. absurd (n refl);
           accepted = λ _. record {
             value = s .value;
             reads = ended;
-            passes = and-both (inRange (s .value)) (fewTerms (s .value)) (sym (s .in-range) ∙ r) (sym (s .short) ∙ t);
+            passes = is-field (s .value) (sym (s .in-range) ∙ r) (sym (s .short) ∙ t);
             ring = g;
           };
         }
 
 -- ---- an accepted field
-pub field-range : (p : Written) → isField p ≡ true → inRange p ≡ true
-unfolding isField
-field-range p e = and-left (inRange p) (fewTerms p) e
-
-pub field-few : (p : Written) → isField p ≡ true → tooManyTerms p ≡ false
-unfolding isField fewTerms
-field-few p e = not-true (tooManyTerms p) (and-right (inRange p) (not (tooManyTerms p)) e)
-
 pub accepted-fitted : (field : Bytes) (k room : ℕ) (a : Accepts field k) → spellRead k room (wholeField field) ≡ fitted (spell k (reduced k (a .value))) room
 unfolding spellRead
 accepted-fitted field k room a =

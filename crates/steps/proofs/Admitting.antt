@@ -10,8 +10,7 @@ use Rattle.limits.specs.Verdicts.{ORDER, TAKEN}
 use Rattle.paper.specs.Rules.{first, stored, rules}
 use Rattle.paper.specs.Grammar.{Bytes}
 use Rattle.paper.specs.Statement.{Statement}
-use Rattle.table.specs.declared.Table.{Table}
-use Rattle.table.specs.Table.{firsts, entryAt}
+use Rattle.table.specs.Table.{storeOfColumns}
 use Rattle.table.specs.Steps.{Absent, FirstAt}
 use Rattle.table.proofs.Laws.{absent-stored, found-stored}
 use Rattle.steps.specs.declared.state.State.{State}
@@ -20,7 +19,7 @@ use Rattle.steps.specs.State.{stateOf}
 use Rattle.steps.specs.Steps.{Does}
 use Rattle.steps.specs.Parts.{admits}
 use Rattle.steps.proofs.Said.{Said}
-use Rattle.steps.proofs.Rows.{two-stop, two-pass}
+use Rattle.steps.proofs.Rows.{two-stop, two-pass, two-later}
 use Rattle.steps.proofs.Stepping.{does, stepped-refused}
 
 abbrev inTurn : Bool → Bool → ℕ
@@ -30,26 +29,22 @@ pub admit-misplaced : (place phase : ℕ) (taken : Bool) → (phase ≡ place �
 admit-misplaced place phase taken n = sym (ap (λ (b : Bool). inTurn b taken) (ne-eqb place phase (λ e. n (sym e))))
 
 module _ (indices starts counts pool : List ℕ) (n x place phase : ℕ) (z : phase ≡ place) where
-  pub admit-taken : {j : ℕ} → FirstAt indices n x j → TAKEN ≡ admits place phase (stored (firsts (entryAt indices starts counts pool) n) x) 0
-  admit-taken {j} f =
-      let t : Table = record { indices = indices; starts = starts; counts = counts; stored = n; used = 0 } in
-      sym (ap₂ inTurn (eq-eqb place phase (sym z)) (found-stored t pool x j f))
+  pub admit-taken : {j : ℕ} → FirstAt indices n x j → TAKEN ≡ admits place phase (stored (storeOfColumns indices starts counts pool n) x) 0
+  admit-taken {j} f = sym (ap₂ inTurn (eq-eqb place phase (sym z)) (found-stored indices starts counts pool n x j f))
 
-  pub admit-free : Absent indices n x → 0 ≡ admits place phase (stored (firsts (entryAt indices starts counts pool) n) x) 0
-  admit-free f =
-      let t : Table = record { indices = indices; starts = starts; counts = counts; stored = n; used = 0 } in
-      sym (ap₂ inTurn (eq-eqb place phase (sym z)) (absent-stored t pool x f))
+  pub admit-free : Absent indices n x → 0 ≡ admits place phase (stored (storeOfColumns indices starts counts pool n) x) 0
+  admit-free f = sym (ap₂ inTurn (eq-eqb place phase (sym z)) (absent-stored indices starts counts pool n x f))
 
 -- ---- what follows for the line
 pub unadmitted : {line : Bytes} {capacity : ℕ} {st : Statement} {s : State} {pool scratch : List ℕ} {r : Step} (place : ℕ) (taken : Bool) (later v : ℕ)
     → Said line st → first (rules capacity (stateOf s pool scratch) st) ≡ admits place (s .phase) taken later → v ≡ admits place (s .phase) taken 0
     → (v ≡ 0 → ⊥) → (r .verdict ≡ v) × (r .state ≡ s) → Does capacity line s pool scratch r pool scratch
 unadmitted {s = s} place taken later v h e q n r =
-    does h (stepped-refused v (omega (arith, n)) (e ∙ two-stop (not (eqb place (s .phase))) taken ORDER TAKEN later (λ z. n (q ∙ z)) ∙ sym q) r refl)
+    does h (stepped-refused v (omega (arith, n)) (e ∙ two-stop (not (eqb place (s .phase))) taken ORDER TAKEN later q n) r refl)
 
 module _ (place phase : ℕ) (taken : Bool) {v : ℕ} (q : v ≡ admits place phase taken 0) (z : v ≡ 0) where
   passed : (not (eqb place phase) ≡ false) × (taken ≡ false)
-  passed = two-pass (not (eqb place phase)) taken ORDER TAKEN (omega arith) (omega arith) (sym q ∙ z)
+  passed = two-pass (not (eqb place phase)) taken ORDER TAKEN (omega arith) (omega arith) q z
 
   pub admitted-phase : phase ≡ place
   admitted-phase = sym (eqb-true place phase (not-false (eqb place phase) (passed .0)))
@@ -58,4 +53,4 @@ module _ (place phase : ℕ) (taken : Bool) {v : ℕ} (q : v ≡ admits place ph
   admitted-free = passed .1
 
   pub admitted : (later : ℕ) → admits place phase taken later ≡ later
-  admitted later = ap₂ (λ (a b : Bool). cond a ORDER (cond b TAKEN later)) (passed .0) (passed .1)
+  admitted = two-later (not (eqb place phase)) taken ORDER TAKEN (omega arith) (omega arith) q z

@@ -6,10 +6,11 @@ use Prim.Native.Nat.{ℕ, _+_, _*_, _^_}
 use native.Mathlib.Nat.{zero-add, add-zero}
 use lib.Bits.{bitOr, or-zero-l, or-zero-r}
 use lib.ListN.{length}
-use Rattle.ground.specs.Lists.{any, total}
+use Rattle.ground.specs.Lists.{any}
 use Rattle.algebra.specs.Polynomial.{Poly, vars, equal, extension, allVars}
 use Rattle.paper.specs.Statement.{Written, Pair, ring, input, goal, lin, del, ext, fields, reduced}
 use Rattle.paper.specs.Rules.{entry, modulo, bits, inputs, steps, State, find, remove, entries, makesSeen, productCount, holdsGoal, after}
+use Rattle.pairs.specs.Pairs.{productsOf}
 
 module _ (s : State) where
   abbrev k : ℕ
@@ -121,9 +122,9 @@ module _ (s : State) where
         seen = bitOr (bitOr (vars (reduced k w)) (allVars (map (λ q. reduced k (q .factor)) qs))) (s .seen);
         goal = s .goal;
         reached = s .reached || equal (reduced k w) (s .goal);
-        products = s .products + total (λ q. length (reduced k (q .factor)) * length (find (s .store) (q .index))) qs;
+        products = s .products + productsOf k (find (s .store)) qs;
       }
-  unfolding after entries makesSeen allVars fields productCount
+  unfolding after entries makesSeen allVars fields productCount productsOf
   after-lin x w qs = λ i. record {
     phase = s .phase;
     ring = s .ring;
@@ -131,7 +132,7 @@ module _ (s : State) where
     seen = bitOr (seen i) (s .seen);
     goal = s .goal;
     reached = reaches (s .goal) (reduced k w) (s .reached) x i;
-    products = s .products + add-zero (total (λ q. length (reduced k (q .factor)) * length (find (s .store) (q .index))) qs) i;
+    products = s .products + add-zero (productsOf k (find (s .store)) qs) i;
   }
     where
       seen : bitOr 0 (bitOr (vars (reduced k w)) (allVars (map (reduced k) (map (λ q. q .factor) qs))))

@@ -1,14 +1,13 @@
 -- What the checks of an ext line and of a lin line say. Assumes nothing.
 use mathlib.Core.Path.{_≡_, refl, sym, ap, ap₂, subst, _∙_}
 use mathlib.Core.Bool.{Bool, true, false, not, cond}
-use mathlib.Core.List.{List, map}
+use mathlib.Core.List.{List}
 use Prim.Native.Nat.{ℕ, _*_, _^_, _≤_, _<_}
 use native.Mathlib.Omega.{arith}
 use lib.Bits.{bitOr}
 use lib.Dec.{ltb}
 use lib.ListN.{length, drop}
 use borrow.Author.Tests.{lt-ltb, le-ltb}
-use Rattle.ground.specs.Lists.{every}
 use Rattle.words.specs.Parts.{Within}
 use Rattle.words.proofs.Parts.{drop-more}
 use Rattle.limits.specs.Limits.{greatestRing, fieldTerms, lineProducts}
@@ -21,15 +20,16 @@ use Rattle.terms.proofs.Decode.{decode-length, decode-above}
 use Rattle.terms.proofs.Rounding.{reduce-rounded}
 use Rattle.paper.specs.Grammar.{Bytes}
 use Rattle.paper.specs.Statement.{Pair, reduced}
-use Rattle.paper.specs.Rules.{Store, stored, find, combination}
+use Rattle.paper.specs.Rules.{Store, find, combination}
 use Rattle.fields.specs.declared.FieldRun.{FieldRun}
 use Rattle.regions.specs.Regions.{statedAt, factorAt, goalAt, ReducedAt, StatedIs}
 use Rattle.pairs.specs.declared.Sum.{Sum}
-use Rattle.pairs.specs.Pairs.{PairsAt, productsOf, Summed}
+use Rattle.pairs.specs.Pairs.{PairsAt, allStored, productsOf, Summed}
 use Rattle.pairs.proofs.Adding.{kept-stated}
 use Rattle.steps.specs.declared.check.Checked.{Checked}
 use Rattle.steps.specs.Parts.{sums, extends}
 use Rattle.steps.specs.Checks.{Extends, Sums, AddsUp}
+use Rattle.steps.proofs.Rows.{two-stop, two-later}
 
 -- ---- ext
 module _ (k v n : ℕ) (seen : List ℕ) (s : List ℕ) where
@@ -94,17 +94,6 @@ module _ (k v n : ℕ) (seen : List ℕ) (s : List ℕ) where
         }
 
 -- ---- lin
--- a verdict of the pairs comes before a later one, and none leaves it
-refused-before : (present over : Bool) (v later : ℕ) → (v ≡ 0 → ⊥) → v ≡ cond (not present) MISSING (cond over PRODUCTS 0) → v ≡ cond (not present) MISSING (cond over PRODUCTS later)
-refused-before false over v later l e = e
-refused-before true true v later l e = e
-refused-before true false v later l e = absurd (l e)
-
-not-refused : (present over : Bool) (later : ℕ) → 0 ≡ cond (not present) MISSING (cond over PRODUCTS 0) → later ≡ cond (not present) MISSING (cond over PRODUCTS later)
-not-refused false over later e = absurd (let z : ⊥ = omega (arith, e) in z)
-not-refused true true later e = absurd (let z : ⊥ = omega (arith, e) in z)
-not-refused true false later e = refl
-
 -- of the n terms p of the stated region of x, which sum-pairs left
 module _ {k : ℕ} {store : Store} {p : Poly} {qs : List Pair} {n : ℕ} (seen : List ℕ) {s x : List ℕ} {u : Sum} (few : n ≤ fieldTerms) (a : Summed k store qs (number seen) s x u)
     (stated : decode n (drop statedAt s) ≡ p) where
@@ -112,7 +101,10 @@ module _ {k : ℕ} {store : Store} {p : Poly} {qs : List Pair} {n : ℕ} (seen :
   Adding r c = Sums k store p qs (number seen) r c
 
   abbrev present : Bool
-  present = every (stored store) (map (λ q. q .index) qs)
+  present = allStored store qs
+
+  abbrev over : Bool
+  over = ltb lineProducts (productsOf k (find store) qs)
 
   abbrev sum : Bool
   sum = equal p (reduce k (combination k (find store) qs))
@@ -121,11 +113,11 @@ module _ {k : ℕ} {store : Store} {p : Poly} {qs : List Pair} {n : ℕ} (seen :
   halted r why l e q = subst (Adding r) (sym q) (record { verdict = e; stands = λ z. absurd (l z) })
 
   pub sums-refused : (u .verdict ≡ 0 → ⊥) → {c : Checked} → c ≡ record { verdict = u .verdict; terms = 0; products = 0; seen = seen } → Adding x c
-  sums-refused l = halted x (u .verdict) l (refused-before present (ltb lineProducts (productsOf k (find store) qs)) (u .verdict) (cond (not sum) MISMATCH 0) l (a .verdict))
+  sums-refused l = halted x (u .verdict) l (sym (two-stop (not present) over MISSING PRODUCTS (cond (not sum) MISMATCH 0) (a .verdict) l))
 
   module _ (o : u .verdict ≡ 0) (kk : k ≤ greatestRing) {r : List ℕ} {b : Bool} (w : Within 0 statedAt x r) (d : b ≡ equal (decode n (drop statedAt x)) (reduce k (decode (u .terms) x))) where
     counted-sum : (y : Bool) → cond (not y) MISMATCH 0 ≡ sums present (productsOf k (find store) qs) y 0
-    counted-sum y = not-refused present (ltb lineProducts (productsOf k (find store) qs)) (cond (not y) MISMATCH 0) (sym o ∙ a .verdict)
+    counted-sum y = sym (two-later (not present) over MISSING PRODUCTS (omega arith) (omega arith) (a .verdict) o (cond (not y) MISMATCH 0))
 
     same-sum : b ≡ sum
     same-sum = d ∙ ap₂ equal (kept-stated s x (a .kept) n (omega arith) ∙ stated) (ap (reduce k) (a .run o) ∙ reduce-rounded k kk (combination k (find store) qs))

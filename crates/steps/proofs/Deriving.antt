@@ -7,7 +7,6 @@ use native.Mathlib.Omega.{arith}
 use lib.Bits.{bitOr}
 use lib.Dec.{ltb}
 use lib.ListN.{length, drop}
-use Rattle.ground.specs.Lists.{every}
 use Rattle.words.proofs.Parts.{drop-more}
 use Rattle.limits.specs.Limits.{lineProducts}
 use Rattle.limits.specs.Verdicts.{MISSING, SEEN, PRODUCTS, MISMATCH, NOTBIT}
@@ -23,7 +22,7 @@ use Rattle.reader.specs.declared.line.Kind.the-variants.{Lin, Ext}
 use Rattle.fields.specs.declared.FieldRun.{FieldRun}
 use Rattle.table.specs.Table.{storeOf}
 use Rattle.regions.specs.Regions.{statedAt, factorAt, goalAt, ReducedAt}
-use Rattle.pairs.specs.Pairs.{productsOf}
+use Rattle.pairs.specs.Pairs.{allStored, productsOf}
 use Rattle.steps.specs.declared.state.State.{State}
 use Rattle.steps.specs.declared.state.Step.{Step}
 use Rattle.steps.specs.declared.check.Checked.{Checked}
@@ -103,7 +102,7 @@ module _ {line : Bytes} {capacity : ℕ} {s : State} {pool scratch : List ℕ} {
 -- the rows behind ORDER and TAKEN, of the stated polynomial
 abbrev linLater : ℕ → State → List ℕ → ℕ → List Pair → Poly → ℕ
 linLater capacity s pool x qs p =
-    sums (every (stored (storeOf (s .table) pool)) (map (λ q. q .index) qs)) (productsOf (s .ring) (find (storeOf (s .table) pool)) qs)
+    sums (allStored (storeOf (s .table) pool) qs) (productsOf (s .ring) (find (storeOf (s .table) pool)) qs)
     (equal p (reduce (s .ring) (combination (s .ring) (find (storeOf (s .table) pool)) qs)))
     (fits capacity (storeOf (s .table) pool) (entry x p))
 
@@ -120,7 +119,6 @@ module _ {line : Bytes} {capacity : ℕ} {s : State} {pool scratch : List ℕ} {
       reached = s .reached || equal (decode (c .terms) (drop statedAt scratch₂)) (decode (s .«goal_terms») (drop goalAt scratch₂));
       products = s .products + c .products;
     })
-    unfolding productsOf
     lin-judged =
         let t = lin-read h g (a .taken) in
         let qs : List Pair = t .0 in
@@ -134,7 +132,7 @@ module _ {line : Bytes} {capacity : ℕ} {s : State} {pool scratch : List ℕ} {
           said = t .2;
           rows = first-lin capacity (stateOf s pool scratch) x w qs (t .2 .ranged) (t .2 .short)
               ∙ admitted steps (s .phase) (stored (storeOf (s .table) pool) x) q z (linLater capacity s pool x qs p)
-              ∙ three-else (not (every (stored (storeOf (s .table) pool)) (map (λ q. q .index) qs))) (ltb lineProducts (productsOf (s .ring) (find (storeOf (s .table) pool)) qs))
+              ∙ three-else (not (allStored (storeOf (s .table) pool) qs)) (ltb lineProducts (productsOf (s .ring) (find (storeOf (s .table) pool)) qs))
               (not (equal p (reduce (s .ring) (combination (s .ring) (find (storeOf (s .table) pool)) qs)))) MISSING PRODUCTS MISMATCH
               (fits capacity (storeOf (s .table) pool) (entry x p)) (omega arith) (omega arith) (omega arith) (m .verdict)
               ∙ else-same (c .verdict) (fits capacity (storeOf (s .table) pool) (entry x p)) (fits capacity (storeOf (s .table) pool) (entry x p₂))

@@ -1,7 +1,7 @@
 -- The verdict of the first row that refuses a statement of each kind. Assumes nothing.
 use mathlib.Core.Path.{_≡_, refl, sym, ap, ap₂, _∙_}
 use mathlib.Core.Bool.{Bool, true, false, not, cond, or-false, and-true}
-use mathlib.Core.List.{List, map}
+use mathlib.Core.List.{List}
 use Prim.Native.Nat.{ℕ, _*_, _<_}
 use native.Mathlib.Nat.{zero-add, add-zero}
 use native.Mathlib.Omega.{arith}
@@ -9,12 +9,13 @@ use lib.Bits.{bitOr}
 use lib.Dec.{eqb, ltb}
 use lib.ListN.{length}
 use borrow.Author.Tests.{eqb-true, ne-eqb}
-use Rattle.ground.specs.Lists.{every, any, total}
+use Rattle.ground.specs.Lists.{every, any}
 use Rattle.limits.specs.Limits.{lineProducts}
 use Rattle.limits.specs.Verdicts.{ACCEPTED, ORDER, TAKEN, MISSING, SEEN, PRODUCTS, MISMATCH, NOTBIT, FULL}
 use Rattle.algebra.specs.Polynomial.{has, vars, equal, reduce, product, extension}
 use Rattle.paper.specs.Rules.{entry, first, bits, opening, inputs, steps, State, Store, stored, find, rules, place, entries, productCount, combination, overfull}
 use Rattle.paper.specs.Statement.{Written, Pair, Statement, onLin, onExt, ring, input, goal, lin, del, ext, newIndex, namedIndices, fields, numbersInRange, tooManyTerms, reduced}
+use Rattle.pairs.specs.Pairs.{allStored, productsOf}
 use Rattle.steps.specs.Parts.{admits, sums, extends}
 
 abbrev pub fits : ℕ → Store → Store → ℕ
@@ -79,29 +80,37 @@ module _ (capacity : ℕ) (s : State) where
   pub first-lin : (i : ℕ) (p : Written) (qs : List Pair) → numbersInRange (lin i p qs) ≡ true → any tooManyTerms (fields (lin i p qs)) ≡ false
       → first (rules capacity s (lin i p qs))
       ≡ admits steps (s .phase) (stored (s .store) i)
-      (sums (every (stored (s .store)) (map (λ q. q .index) qs))
-      (total (λ q. length (reduced k (q .factor)) * length (find (s .store) (q .index))) qs)
+      (sums (allStored (s .store) qs) (productsOf k (find (s .store)) qs)
       (equal (reduced k p) (reduce k (combination k (find (s .store)) qs)))
       (fits capacity (s .store) (entry i (reduced k p))))
-  unfolding place newIndex namedIndices any productCount entries
+  unfolding place newIndex namedIndices any productCount productsOf entries
   first-lin i p qs r t =
       first-said (lin i p qs) r t
       ∙ ap₂ (λ (b : Bool) (n : ℕ). admits steps (s .phase) b
-      (sums (every (stored (s .store)) (map (λ q. q .index) qs)) n
+      (sums (allStored (s .store) qs) n
       (equal (reduced k p) (reduce k (combination k (find (s .store)) qs)))
       (fits capacity (s .store) (entry i (reduced k p)))))
-      (or-false (stored (s .store) i)) (add-zero (total (λ q. length (reduced k (q .factor)) * length (find (s .store) (q .index))) qs))
+      (or-false (stored (s .store) i)) (add-zero (productsOf k (find (s .store)) qs))
 
 -- ---- tests in a row
-pub two-stop : (a b : Bool) (v w x : ℕ) → (cond a v (cond b w 0) ≡ 0 → ⊥) → cond a v (cond b w x) ≡ cond a v (cond b w 0)
-two-stop true b v w x h = refl
-two-stop false true v w x h = refl
-two-stop false false v w x h = absurd (h refl)
+-- a verdict r of two tests comes before a later one
+pub two-stop : (a b : Bool) (v w later : ℕ) {r : ℕ} → r ≡ cond a v (cond b w 0) → (r ≡ 0 → ⊥) → cond a v (cond b w later) ≡ r
+two-stop true b v w later e n = sym e
+two-stop false true v w later e n = sym e
+two-stop false false v w later e n = absurd (n e)
 
-pub two-pass : (a b : Bool) (v w : ℕ) → 0 < v → 0 < w → cond a v (cond b w 0) ≡ 0 → (a ≡ false) × (b ≡ false)
-two-pass true b v w l m e = absurd (let z : ⊥ = omega arith in z)
-two-pass false true v w l m e = absurd (let z : ⊥ = omega arith in z)
-two-pass false false v w l m e = (refl, refl)
+-- and where it is 0, both are false, and the later one is left
+module _ (a b : Bool) (v w : ℕ) (l : 0 < v) (m : 0 < w) {r : ℕ} (e : r ≡ cond a v (cond b w 0)) (z : r ≡ 0) where
+  pub two-pass : (a ≡ false) × (b ≡ false)
+  two-pass = go a b (sym e ∙ z)
+    where
+      go : (a b : Bool) → cond a v (cond b w 0) ≡ 0 → (a ≡ false) × (b ≡ false)
+      go true b e = absurd (let z : ⊥ = omega arith in z)
+      go false true e = absurd (let z : ⊥ = omega arith in z)
+      go false false e = (refl, refl)
+
+  pub two-later : (later : ℕ) → cond a v (cond b w later) ≡ later
+  two-later later = ap₂ (λ (a b : Bool). cond a v (cond b w later)) (two-pass .0) (two-pass .1)
 
 -- where v is 0 it is left to the later verdict
 pub else-same : (v a b : ℕ) → (v ≡ 0 → a ≡ b) → cond (eqb v ACCEPTED) a v ≡ cond (eqb v ACCEPTED) b v

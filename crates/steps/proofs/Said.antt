@@ -1,18 +1,17 @@
 -- What a line of each kind says: where its fields can be read, and the statement that the numbers and polynomials read there make.
 -- Assumes nothing.
 use mathlib.Core.Path.{_≡_, ap, subst, _∙_}
-use mathlib.Core.Bool.{Bool, true, false, _&&_, not}
+use mathlib.Core.Bool.{true, false, _&&_, not}
 use mathlib.Core.List.{List, [], _∷_}
 use Prim.Native.Nat.{ℕ, _+_, _≤_, _<_}
 use native.Mathlib.Omega.{arith}
-use lib.Dec.{leb}
 use lib.ListN.{length, drop, length-drop}
-use borrow.Author.Tests.{leb-true, le-leb}
 use Rattle.ground.specs.Lists.{every, any}
-use Rattle.ground.proofs.Tests.{and-left, and-right, and-both}
-use Rattle.limits.specs.Limits.{variables, greatestRing, greatestIndex}
+use Rattle.ground.proofs.Tests.{and-left, and-right}
+use Rattle.limits.specs.Limits.{variables, greatestRing}
 use Rattle.paper.specs.Grammar.{Bytes, Reader, got, decimal, polynomial, statement}
-use Rattle.paper.specs.Statement.{Written, Pair, Statement, ring, input, goal, lin, del, ext, fields, within, isRing, isIndex, isVariable, inRange, numbersInRange, tooManyTerms}
+use Rattle.paper.specs.Statement.{Written, Pair, Statement, ring, input, goal, lin, del, ext, fields, isRing, isIndex, isVariable, inRange, numbersInRange, tooManyTerms}
+use Rattle.paper.proofs.Ranges.{ring-some, ring-most}
 use Rattle.reader.specs.Places.{Got}
 use Rattle.reader.specs.Fields.{fewTerms}
 use Rattle.reader.specs.Lines.{morePairs, pairRanged, pairFew, kindOf}
@@ -20,10 +19,10 @@ use Rattle.reader.specs.declared.line.Kind.{Kind}
 use Rattle.reader.specs.declared.line.Kind.the-variants.{Ring, Input, Goal, Lin, Del, Ext}
 use Rattle.reader.proofs.Fields.{Tabbed, FieldsAt, fields-at}
 use Rattle.reader.proofs.Lines.{ranged-ring, ranged-input, ranged-goal, ranged-lin, ranged-del, ranged-ext, few-one, few-lin}
-use Rattle.fields.specs.Fields.{Good, isField}
-use Rattle.fields.proofs.Taking.{is-variable}
-use Rattle.pairs.specs.Pairs.{isSmall, PairsAt}
-use Rattle.pairs.proofs.Walking.{small-index}
+use Rattle.fields.specs.Fields.{Good, isSmall, isField}
+use Rattle.fields.proofs.Ranges.{is-variable, small-ring, small-index, small-variable, is-field}
+use Rattle.fields.proofs.Taking.{tab-good}
+use Rattle.pairs.specs.Pairs.{PairsAt}
 use Rattle.steps.specs.Steps.{Says}
 
 -- ---- the statement of a line
@@ -55,32 +54,16 @@ said {line} h =
     (by-kind (h .value) (record { reads = h .reads; ranged = h .ranged; short = h .short; places = fields-at line true (h .value) [] (h .reads) }))
 
 -- ---- tests of what is read
-small-ring : (k : ℕ) → isRing k ≡ true → isSmall k ≡ true
-unfolding isRing isSmall
-small-ring k e = let l : k ≤ greatestRing = leb-true k greatestRing (and-right (leb 1 k) (leb k greatestRing) e) in le-leb k greatestIndex (omega arith)
-
-small-variable : (v : ℕ) → isVariable v ≡ true → isSmall v ≡ true
-unfolding isSmall
-small-variable v e = let l = is-variable v e in le-leb v greatestIndex (omega arith)
-
 pub ring-range : (k : ℕ) → numbersInRange (ring k) ≡ true → (1 ≤ k) × (k ≤ greatestRing)
 unfolding isRing
 ring-range k e =
-    let t : within 1 greatestRing k ≡ true = ranged-ring k ∙ e in
-    (leb-true 1 k (and-left (leb 1 k) (leb k greatestRing) t), leb-true k greatestRing (and-right (leb 1 k) (leb k greatestRing) t))
+    let t : isRing k ≡ true = ranged-ring k ∙ e in
+    (ring-some k t, ring-most k t)
 
 one-short : (p : Written) → any tooManyTerms (p ∷ []) ≡ false → fewTerms p ≡ true
 one-short p e = few-one p ∙ ap not e
 
-is-field : (p : Written) → inRange p ≡ true → fewTerms p ≡ true → isField p ≡ true
-unfolding isField
-is-field p r f = and-both (inRange p) (fewTerms p) r f
-
 -- ---- places
--- what a reading behind a tab gives
-tab-good : {A : Type 0} (read : Reader A) (test : A → Bool) {s : Bytes} {m : ℕ} {x : A} {r : Bytes} → Tabbed read s m x r → test x ≡ true → Good read test s (m + 1)
-tab-good read test {x = x} {r = r} t e = let l = t .inside in record { value = x; rest = r; reads = t .reads; passes = e; inside = omega arith }
-
 tab-same : {A : Type 0} (read : Reader A) {s : Bytes} {m : ℕ} {x y : A} {r : Bytes} {e : ℕ} → Tabbed read s m x r → Got read s (m + 1) y e → x ≡ y
 tab-same read t g = let p = t .reads in let q = g .reads in cc
 

@@ -161,7 +161,7 @@ module _ {line : Bytes} {capacity : ℕ} {s : State} {pool scratch : List ℕ} {
       → Does capacity line s pool scratch r left scratch
   del-stands t left j room z a f l w =
       let e : eqb steps (s .phase) ≡ true = eq-eqb steps (s .phase) (sym z) in
-      let d : stored (storeOf (s .table) pool) x ≡ true = found-stored (s .table) pool x j a in
+      let d : stored (storeOf (s .table) pool) x ≡ true = found-stored (s .table .indices) (s .table .starts) (s .table .counts) pool (s .table .stored) x j a in
       let o = room .ready in
       let q : storeOf t left ≡ remove (storeOf (s .table) pool) x = f .store x a in
       does h (told w (record {

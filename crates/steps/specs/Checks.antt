@@ -4,17 +4,16 @@ use mathlib.Core.List.{List, map}
 use Prim.Native.Nat.{ℕ, _*_, _^_, _≤_}
 use lib.Bits.{bitOr}
 use lib.ListN.{length, drop}
-use Rattle.ground.specs.Lists.{every}
 use Rattle.limits.specs.Limits.{fieldTerms, lineProducts}
 use Rattle.algebra.specs.Polynomial.{has, Poly, vars, equal, reduce, product, extension, allVars}
 use Rattle.words.specs.Words.{number}
 use Rattle.terms.specs.Terms.{decode}
 use Rattle.paper.specs.Grammar.{Bytes, polynomial}
 use Rattle.paper.specs.Statement.{Written, Pair, reduced}
-use Rattle.paper.specs.Rules.{Store, stored, find, combination}
+use Rattle.paper.specs.Rules.{Store, find, combination}
 use Rattle.reader.specs.Places.{Got}
 use Rattle.regions.specs.Regions.{statedAt, goalAt}
-use Rattle.pairs.specs.Pairs.{PairsAt, productsOf}
+use Rattle.pairs.specs.Pairs.{PairsAt, allStored, productsOf}
 use Rattle.steps.specs.declared.check.Checked.{Checked}
 use Rattle.steps.specs.Parts.{sums, extends}
 
@@ -36,7 +35,7 @@ pub record Extends (k v : ℕ) (p : Poly) (earlier : ℕ) (s r : List ℕ) (c : 
 -- of the stated polynomial p and the pairs qs
 pub record Sums (k : ℕ) (store : Store) (p : Poly) (qs : List Pair) (earlier : ℕ) (r : List ℕ) (c : Checked) : Type 0 where
   pub verdict : c .verdict
-      ≡ sums (every (stored store) (map (λ q. q .index) qs)) (productsOf k (find store) qs)
+      ≡ sums (allStored store qs) (productsOf k (find store) qs)
       (equal p (reduce k (combination k (find store) qs))) 0
   pub stands : c .verdict ≡ 0 → Leaves p (productsOf k (find store) qs) (bitOr (vars p) (bitOr (allVars (map (λ q. reduced k (q .factor)) qs)) earlier)) r c
 

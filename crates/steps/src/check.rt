@@ -14,7 +14,7 @@ ghost use Rattle.paper.specs.Statement.{Written, Pair};
 ghost use Rattle.paper.specs.Rules.{stored};
 ghost use Rattle.reader.specs.Places.{Got};
 ghost use Rattle.fields.specs.Fields.{Good, isField};
-ghost use Rattle.table.specs.Table.{firsts, entryAt};
+ghost use Rattle.table.specs.Table.{storeOfColumns};
 ghost use Rattle.regions.specs.Regions.{statedAt, goalAt};
 ghost use Rattle.pairs.specs.Pairs.{PairsAt, PoolHolds};
 ghost use Rattle.steps.specs.Parts.{admits, Keeps};
@@ -49,7 +49,7 @@ fn refusal(verdict: u64, seen: Set) -> Checked
 // How a line is refused that stands in the wrong phase or under an index that is stored.
 pub(crate) fn admit(phase: u8, place: u8, indices: &Indices, n: usize, index: u32) -> u64
     requires { ⌜ n ≤ storedPolynomials ⌝ }
-    ensures { λ r. ⌜ ((starts counts pool : List ℕ) → r ≡ admits place phase (stored (firsts (entryAt (now (indices .entry)) starts counts pool) n) index) 0) ⌝ }
+    ensures { λ r. ⌜ ((starts counts pool : List ℕ) → r ≡ admits place phase (stored (storeOfColumns (now (indices .entry)) starts counts pool n) index) 0) ⌝ }
 {
     if phase != place {
         return limits::ORDER;
@@ -125,7 +125,7 @@ pub(crate) fn add_up<'a>(
         × ((w : Written) (e : ℕ) → Got polynomial (now line) at w e → (qs : List Pair) × PairsAt (now line) e qs)
         × PoolHolds (now starts) (now counts) n (now pool) × (leastScratch ≤ length (now scratch)) × (1 ≤ k) × (k ≤ 64)
         ⌝ }
-    ensures { λ r. ⌜ AddsUp (now (line .entry)) at k (firsts (entryAt (now (indices .entry)) (now (starts .entry)) (now (counts .entry)) (now (pool .entry))) n) (number seen) (now (scratch .entry)) (now (scratch .exit)) r ⌝ }
+    ensures { λ r. ⌜ AddsUp (now (line .entry)) at k (storeOfColumns (now (indices .entry)) (now (starts .entry)) (now (counts .entry)) (now (pool .entry)) n) (number seen) (now (scratch .entry)) (now (scratch .exit)) r ⌝ }
 {
     let f = regions::read_reduced(line, at, scratch, regions::STATED, k);
     let e = f.end;

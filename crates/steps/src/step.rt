@@ -14,7 +14,7 @@ use super::state::OPENING;
 use super::state::STEPS;
 use super::state::State;
 use super::state::Step;
-use pairs::small_at;
+use fields::small_at;
 use table::Found;
 use table::close;
 use table::close_gap;

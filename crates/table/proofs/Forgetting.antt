@@ -1,4 +1,4 @@
--- Closing the gap over the columns and the pool: the rest is packed again, and its entries are those of before without one. Assumes nothing.
+-- Closing the gap over the columns and the pool: the rest is packed again, and its storeOfColumns are those of before without one. Assumes nothing.
 use mathlib.Core.Path.{_≡_, sym, ap, ap₂, subst, _∙_}
 use mathlib.Core.Logic.{⊎-elim}
 use mathlib.Core.List.{List}
@@ -18,7 +18,7 @@ use Rattle.terms.specs.Terms.{decode}
 use Rattle.terms.proofs.Decode.{decode-same}
 use Rattle.paper.specs.Rules.{Store, remove}
 use Rattle.table.specs.declared.Table.{Table}
-use Rattle.table.specs.Table.{firsts, polyAt, entryAt, storeOf, termsBefore, PackedColumns, Packed, Fitting}
+use Rattle.table.specs.Table.{polyAt, entryAt, storeOfColumns, storeOf, termsBefore, PackedColumns, Packed, Fitting}
 use Rattle.table.specs.Steps.{Closed, FirstAt}
 use Rattle.table.proofs.Firsts.{firsts-split, firsts-cut, behind, stored-none, remove-split}
 use Rattle.table.proofs.Moving.{moved-part}
@@ -117,11 +117,11 @@ module _ (is ss cs pool js ts ds : List ℕ) (j n used : ℕ) (p : PackedColumns
       ∙ decode-same (getD cs (k + 1) 0) (drop (getD ts k 0 * termWords + count * termWords) pool) (drop (getD ts k 0 * termWords) left) q
       ∙ ap (λ (b : ℕ). decode (getD cs (k + 1) 0) (drop b pool)) e
 
-  left-store : (x : ℕ) → FirstAt is n x j → firsts (entryAt js ts ds left) (n - 1) ≡ remove (firsts (entryAt is ss cs pool) n) x
+  left-store : (x : ℕ) → FirstAt is n x j → storeOfColumns js ts ds left (n - 1) ≡ remove (storeOfColumns is ss cs pool n) x
   left-store x f =
       firsts-cut (entryAt is ss cs pool) (entryAt js ts ds left) j n h before after
       ∙ sym (ap (λ (s : Store). remove s x) (firsts-split (entryAt is ss cs pool) j n h)
-      ∙ remove-split (firsts (entryAt is ss cs pool) j) (behind (entryAt is ss cs pool) j n) (entryAt is ss cs pool j) x (f .here)
+      ∙ remove-split (storeOfColumns is ss cs pool j) (behind (entryAt is ss cs pool) j n) (entryAt is ss cs pool j) x (f .here)
       (stored-none (entryAt is ss cs pool) j x (f .earlier .nowhere)))
     where
       before : (k : ℕ) → k < j → entryAt js ts ds left k ≡ entryAt is ss cs pool k
@@ -147,7 +147,7 @@ forgotten s pool js ts ds left j start count p h room es ec ci ct cd e =
     let cf : Closed (s .starts) j (s .stored) (getD (s .counts) j 0) ts = subst (λ (x : ℕ). Closed (s .starts) j (s .stored) x ts) ec ct in
     let el : left ≡ closedPool pool (getD (s .starts) j 0) (getD (s .counts) j 0) (s .used) = e ∙ ap₂ (λ (a c : ℕ). closedPool pool a c (s .used)) es ec in
     record {
-      store = λ x f. ap (λ (l : List ℕ). firsts (entryAt js ts ds l) (s .stored - 1)) el
+      store = λ x f. ap (λ (l : List ℕ). storeOfColumns js ts ds l (s .stored - 1)) el
           ∙ left-store (s .indices) (s .starts) (s .counts) pool js ts ds j (s .stored) (s .used) p h room ci cf cd x f;
       packed = subst (λ (x : ℕ). PackedColumns ts ds (s .stored - 1) (s .used - x)) (sym ec)
           (left-packed (s .indices) (s .starts) (s .counts) pool js ts ds j (s .stored) (s .used) p h room ci cf cd);

@@ -17,7 +17,7 @@ use Rattle.paper.proofs.Store.{terms-append}
 use Rattle.table.specs.declared.Found.{Found}
 use Rattle.table.specs.declared.Found.the-variants.{At, Nothing}
 use Rattle.table.specs.declared.Table.{Table}
-use Rattle.table.specs.Table.{firsts, polyAt, entryAt, storeOf, termsBefore, Packed, Fitting}
+use Rattle.table.specs.Table.{firsts, polyAt, entryAt, storeOfColumns, storeOf, termsBefore, Packed, Fitting}
 use Rattle.table.specs.Steps.{Absent, FirstAt, Finds, Fresh}
 use Rattle.table.proofs.Firsts.{firsts-length, firsts-same, firsts-split, behind, stored-none, stored-split, find-split}
 use Rattle.table.proofs.Packing.{ends-used}
@@ -25,11 +25,11 @@ use Rattle.table.proofs.Packing.{ends-used}
 pub store-length : (s : Table) (pool : List ℕ) → length (storeOf s pool) ≡ s .stored
 store-length s pool = firsts-length (entryAt (s .indices) (s .starts) (s .counts) pool) (s .stored)
 
-terms : (is ss cs pool : List ℕ) (n : ℕ) → storedTerms (firsts (entryAt is ss cs pool) n) ≡ termsBefore cs n
+terms : (is ss cs pool : List ℕ) (n : ℕ) → storedTerms (storeOfColumns is ss cs pool n) ≡ termsBefore cs n
 unfolding firsts termsBefore storedTerms total
 terms is ss cs pool zero = refl
 terms is ss cs pool (suc n) =
-    terms-append (firsts (entryAt is ss cs pool) n) (entryAt is ss cs pool n ∷ [])
+    terms-append (storeOfColumns is ss cs pool n) (entryAt is ss cs pool n ∷ [])
     ∙ omega (arith, terms is ss cs pool n, decode-length (getD cs n 0) (drop (getD ss n 0 * termWords) pool))
 
 pub store-terms : (s : Table) (pool : List ℕ) → Packed s → storedTerms (storeOf s pool) ≡ s .used
@@ -60,20 +60,19 @@ found-at {column} {n} {x} e f = subst (Finds column n x) e f
 pub found-nothing : {column : List ℕ} {n x : ℕ} {r : Found} → r ≡ Nothing → Finds column n x r → Absent column n x
 found-nothing {column} {n} {x} e f = subst (Finds column n x) e f
 
-pub absent-stored : (s : Table) (pool : List ℕ) (x : ℕ) → Absent (s .indices) (s .stored) x → stored (storeOf s pool) x ≡ false
-absent-stored s pool x a = stored-none (entryAt (s .indices) (s .starts) (s .counts) pool) (s .stored) x (a .nowhere)
-
-module _ (s : Table) (pool : List ℕ) (x j : ℕ) (f : FirstAt (s .indices) (s .stored) x j) where
+module _ (is ss cs pool : List ℕ) (n x : ℕ) where
   abbrev at : ℕ → Entry
-  at = entryAt (s .indices) (s .starts) (s .counts) pool
+  at = entryAt is ss cs pool
 
-  pub found-stored : stored (storeOf s pool) x ≡ true
-  found-stored = rw (firsts-split at j (s .stored) (f .inside)) (stored-split (firsts at j) (behind at j (s .stored)) (at j) x (f .here))
+  pub absent-stored : Absent is n x → stored (storeOfColumns is ss cs pool n) x ≡ false
+  absent-stored a = stored-none at n x (a .nowhere)
 
-  pub found-find : find (storeOf s pool) x ≡ polyAt (s .starts) (s .counts) pool j
-  found-find =
-      rw (firsts-split at j (s .stored) (f .inside))
-      (find-split (firsts at j) (behind at j (s .stored)) (at j) x (f .here) (stored-none at j x (f .earlier .nowhere)))
+  module _ (j : ℕ) (f : FirstAt is n x j) where
+    pub found-stored : stored (storeOfColumns is ss cs pool n) x ≡ true
+    found-stored = rw (firsts-split at j n (f .inside)) (stored-split (firsts at j) (behind at j n) (at j) x (f .here))
+
+    pub found-find : find (storeOfColumns is ss cs pool n) x ≡ polyAt ss cs pool j
+    found-find = rw (firsts-split at j n (f .inside)) (find-split (firsts at j) (behind at j n) (at j) x (f .here) (stored-none at j x (f .earlier .nowhere)))
 
 -- ---- a new table
 pub fresh-fitting : (r : Table) (pool : List ℕ) (capacity : ℕ) → Fresh r

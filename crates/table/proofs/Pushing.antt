@@ -11,7 +11,7 @@ use Rattle.limits.specs.Limits.{storedPolynomials, fieldTerms, termWords}
 use Rattle.terms.specs.Terms.{decode}
 use Rattle.paper.specs.Rules.{Entry, Store}
 use Rattle.table.specs.declared.Table.{Table}
-use Rattle.table.specs.Table.{firsts, entryAt, storeOf, termsBefore, PackedColumns, Packed}
+use Rattle.table.specs.Table.{entryAt, storeOfColumns, storeOf, termsBefore, PackedColumns, Packed}
 use Rattle.table.proofs.Firsts.{firsts-same, firsts-more}
 use Rattle.table.proofs.Packing.{before-more, before-same}
 
@@ -43,8 +43,8 @@ module _ (is ss cs : List ℕ) (n used index terms : ℕ) (li : n < length is) (
           (eq-or-lt-of-le (let m : j ≤ n = omega arith in m))
 
   pushed-store : (pool : List ℕ)
-      → firsts (entryAt (set is n index) (set ss n used) (set cs n terms) pool) (n + 1)
-      ≡ firsts (entryAt is ss cs pool) n ++ (record { index = index; poly = decode terms (drop (used * termWords) pool) } ∷ [])
+      → storeOfColumns (set is n index) (set ss n used) (set cs n terms) pool (n + 1)
+      ≡ storeOfColumns is ss cs pool n ++ (record { index = index; poly = decode terms (drop (used * termWords) pool) } ∷ [])
   pushed-store pool =
       firsts-more (entryAt (set is n index) (set ss n used) (set cs n terms) pool) n
       ∙ ap₂ (λ (s : Store) (e : Entry). s ++ (e ∷ []))
@@ -69,7 +69,7 @@ pub pushed : (s : Table) (index terms : ℕ) (is ss cs : List ℕ) → Packed s 
     → is ≡ set (s .indices) (s .stored) index → ss ≡ set (s .starts) (s .stored) (s .used) → cs ≡ set (s .counts) (s .stored) terms
     → Pushed s index terms (record { indices = is; starts = ss; counts = cs; stored = s .stored + 1; used = s .used + terms })
 pushed s index terms is ss cs p few low li ls lc ei es ec = record {
-  store = λ pool. (λ t. firsts (entryAt (ei t) (es t) (ec t) pool) (s .stored + 1))
+  store = λ pool. (λ t. storeOfColumns (ei t) (es t) (ec t) pool (s .stored + 1))
       ∙ pushed-store (s .indices) (s .starts) (s .counts) (s .stored) (s .used) index terms li ls lc pool;
   packed = subst (λ (x : List ℕ). PackedColumns x cs (s .stored + 1) (s .used + terms)) (sym es)
       (subst (λ (x : List ℕ). PackedColumns (set (s .starts) (s .stored) (s .used)) x (s .stored + 1) (s .used + terms)) (sym ec)

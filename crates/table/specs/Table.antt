@@ -21,8 +21,12 @@ polyAt starts counts pool j = decode (getD counts j 0) (drop (getD starts j 0 * 
 abbrev pub entryAt : List ℕ → List ℕ → List ℕ → List ℕ → ℕ → Entry
 entryAt indices starts counts pool j = record { index = getD indices j 0; poly = polyAt starts counts pool j }
 
+-- the first n
+abbrev pub storeOfColumns : List ℕ → List ℕ → List ℕ → List ℕ → ℕ → Store
+storeOfColumns indices starts counts pool n = firsts (entryAt indices starts counts pool) n
+
 abbrev pub storeOf : Table → List ℕ → Store
-storeOf s pool = firsts (entryAt (s .indices) (s .starts) (s .counts) pool) (s .stored)
+storeOf s pool = storeOfColumns (s .indices) (s .starts) (s .counts) pool (s .stored)
 
 -- the first n counts, added
 unfoldable pub termsBefore : List ℕ → ℕ → ℕ

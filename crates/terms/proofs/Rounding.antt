@@ -1,7 +1,7 @@
 -- Coefficients modulo 2 ^ 64 have the sums of the whole ones modulo 2 ^ k, for k up to 64, and so the same reduced form. Assumes nothing.
-use mathlib.Core.Path.{_≡_}
+use mathlib.Core.Path.{_≡_, refl, ap}
 use mathlib.Core.Bool.{Bool, true, false}
-use mathlib.Core.List.{[], _∷_}
+use mathlib.Core.List.{[], _∷_, _++_}
 use Prim.Native.Nat.{ℕ, _%_, _^_, _≤_}
 use Rattle.ground.proofs.Congruence.{Same, same-refl, same-add}
 use Rattle.algebra.specs.Polynomial.{Poly, sumIf, put, reduce}
@@ -9,6 +9,11 @@ use Rattle.algebra.proofs.Values.{keep}
 use Rattle.algebra.proofs.Sums.{reduce-sums}
 use Rattle.words.proofs.Wrap.{cut-cut}
 use Rattle.terms.specs.Terms.{rounded}
+
+pub rounded-append : (p q : Poly) → rounded (p ++ q) ≡ rounded p ++ rounded q
+unfolding rounded
+rounded-append [] q = refl
+rounded-append (t ∷ p) q = ap (λ (r : Poly). record { set = t .set; coef = t .coef % 2 ^ 64 } ∷ r) (rounded-append p q)
 
 module _ (k : ℕ) (h : k ≤ 64) where
   -- a coefficient that counts, or not

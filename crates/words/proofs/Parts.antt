@@ -69,13 +69,13 @@ pub paste-more : (d : List ℕ) (at : ℕ) (s : List ℕ) (j : ℕ) → at + j <
 paste-more d at s j hd hs = rw (add-one) (paste-suc d at s j 0 hd hs)
 
 -- the same, to the front
-pub fill-more : (d s : List ℕ) (j : ℕ) → j < length d → j < length s → set (paste d 0 s j) j (getD s j 0) ≡ paste d 0 s (j + 1)
-fill-more d s j hd hs =
+pub front-more : (d s : List ℕ) (j : ℕ) → j < length d → j < length s → set (paste d 0 s j) j (getD s j 0) ≡ paste d 0 s (j + 1)
+front-more d s j hd hs =
     let e : j ≡ 0 + j = omega arith in
     ap (λ (i : ℕ). set (paste d 0 s j) i (getD s j 0)) e ∙ paste-more d 0 s j (omega arith) hs
 
-pub fill-all : (d s : List ℕ) (n : ℕ) → length d ≡ n → paste d 0 s n ≡ take n s
-fill-all d s n h =
+pub front-all : (d s : List ℕ) (n : ℕ) → length d ≡ n → paste d 0 s n ≡ take n s
+front-all d s n h =
     let e : 0 + n ≡ n = omega arith in
     rw (e, drop-of-length-le d {i = n} (omega arith)) (append-nil (take n s))
 

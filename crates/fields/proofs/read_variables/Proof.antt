@@ -11,7 +11,8 @@ use Rattle.paper.specs.Grammar.{decimal}
 use Rattle.paper.specs.Statement.{isVariable, setOf}
 use Rattle.paper.proofs.Reading.{takes-decimal, each-stop, each-end}
 use Rattle.reader.proofs.Scans.{Passed, passed-none, passed-more, passed-stop}
-use Rattle.fields.proofs.Taking.{following, good-weaken, variable-word, is-variable, same-value, no-variables, one-more}
+use Rattle.fields.proofs.Ranges.{is-variable, variable-word}
+use Rattle.fields.proofs.Taking.{following, good-weaken, same-value, no-variables, one-more}
 use Rattle.fields.proofs.read_variables.Statement.{statement}
 use Rattle.fields.proofs.read_variables.Tie as tie
 

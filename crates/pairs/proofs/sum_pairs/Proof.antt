@@ -5,7 +5,7 @@ use Prim.Native.Nat.{_-_}
 use native.Mathlib.Omega.{arith}
 use lib.ListN.{length}
 use Rattle.words.specs.Words.{number}
-use Rattle.table.specs.Table.{firsts, entryAt}
+use Rattle.table.specs.Table.{storeOfColumns}
 use Rattle.pairs.proofs.Adding.{kept-trans}
 use Rattle.pairs.proofs.Summing.{Done, done-start, done-rest, done-stop, done-onward, done-more, done-last}
 use Rattle.pairs.proofs.sum_pairs.Statement.{statement}
@@ -13,7 +13,7 @@ use Rattle.pairs.proofs.sum_pairs.Tie as tie
 
 abbrev Inv-loop : tie.InvT-loop
 Inv-loop indices starts counts n line at pool scratch₀ k sum₀ i₀ scratch sum i =
-    (sum .verdict ≡ 0) × Done k (firsts (entryAt indices starts counts pool) n) line at i (number (sum₀ .seen)) (sum .terms) (number (sum .seen)) scratch₀ scratch
+    (sum .verdict ≡ 0) × Done k (storeOfColumns indices starts counts pool n) line at i (number (sum₀ .seen)) (sum .terms) (number (sum .seen)) scratch₀ scratch
 
 abbrev μ-loop : tie.MeasureT-loop
 μ-loop indices starts counts n line at pool scratch₀ k sum₀ i₀ scratch sum i = length line - i
@@ -22,7 +22,7 @@ loop-holds : tie.Need-loop-holds Inv-loop μ-loop
 loop-holds c =
     let b = c .before .before .before in
     let a = b .args in
-    let s = firsts (entryAt (a .indices .now) (a .starts .now) (a .counts .now) (a .pool .now)) (a .n) in
+    let s = storeOfColumns (a .indices .now) (a .starts .now) (a .counts .now) (a .pool .now) (a .n) in
     (refl, done-start (a .k) s (number (a .seen)) (a .scratch .now) (b .pre .0 .1))
 
 add-pair-requires : tie.Need-add-pair-requires Inv-loop μ-loop

@@ -2,7 +2,7 @@
 -- Assumes nothing.
 use native.Mathlib.Omega.{arith}
 use borrow.Author.Needs.{needs}
-use Rattle.speller.proofs.Judging.{ring-some, ring-most}
+use Rattle.paper.proofs.Ranges.{ring-some, ring-most}
 use Rattle.speller.proofs.Giving.{accepts-good, field-room, field-holds}
 use Rattle.speller.proofs.reduce_field.Statement.{statement}
 use Rattle.speller.proofs.reduce_field.Tie as tie

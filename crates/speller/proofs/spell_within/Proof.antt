@@ -4,7 +4,7 @@ use mathlib.Core.Path.{sym}
 use native.Mathlib.Omega.{arith}
 use lib.ListN.{length}
 use borrow.Author.Needs.{needs}
-use Rattle.speller.proofs.Judging.{ring-some, ring-most}
+use Rattle.paper.proofs.Ranges.{ring-some, ring-most}
 use Rattle.speller.proofs.Giving.{gives-as, gives-refused, gives-field, holds-cut}
 use Rattle.speller.proofs.spell_within.Statement.{statement}
 use Rattle.speller.proofs.spell_within.Tie as tie

@@ -6,7 +6,7 @@ use borrow.Author.Needs.{needs}
 use lib.ListN.{length, drop, replicate, length-set, length-drop}
 use lib.Seq.{paste, getD-drop}
 use Rattle.limits.specs.Limits.{termWords}
-use Rattle.words.proofs.Parts.{fill-more, fill-all}
+use Rattle.words.proofs.Parts.{front-more, front-all}
 use Rattle.terms.proofs.read_term.Statement.{statement}
 use Rattle.terms.proofs.read_term.Tie as tie
 
@@ -47,7 +47,7 @@ loop-again c =
       omega arith,
       simp length-set (b .loop .inv .1),
       rw (b .loop .inv .2, ← getD-drop (a .at) (a .s .now) (b .loop .i) 0)
-          (fill-more (replicate termWords 0) (drop (a .at) (a .s .now)) (b .loop .i) (omega arith) (simp length-drop (omega arith))),
+          (front-more (replicate termWords 0) (drop (a .at) (a .s .now)) (b .loop .i) (omega arith) (simp length-drop (omega arith))),
     )
 
 returns : tie.Need-returns Inv-loop μ-loop
@@ -55,7 +55,7 @@ returns c =
     let b = c .before in
     let a = b .before .args in
     let e : b .loop .i ≡ termWords = omega arith in
-    (rw e at (b .loop .inv .2)) ∙ fill-all (replicate termWords 0) (drop (a .at) (a .s .now)) termWords refl
+    (rw e at (b .loop .inv .2)) ∙ front-all (replicate termWords 0) (drop (a .at) (a .s .now)) termWords refl
 
 pub read-term-spec : {M : Type 1} → statement M
 read-term-spec =

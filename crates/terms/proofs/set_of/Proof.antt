@@ -7,7 +7,7 @@ use lib.ListN.{length, replicate, length-set}
 use lib.Seq.{paste}
 use Rattle.limits.specs.Limits.{setWords, termWords}
 use Rattle.words.specs.Words.{number}
-use Rattle.words.proofs.Parts.{fill-more, fill-all}
+use Rattle.words.proofs.Parts.{front-more, front-all}
 use Rattle.terms.specs.Terms.{termOf}
 use Rattle.terms.proofs.set_of.Statement.{statement}
 use Rattle.terms.proofs.set_of.Tie as tie
@@ -43,14 +43,14 @@ loop-again : tie.Need-loop-again Inv-loop μ-loop
 loop-again c =
     let b = c .before in
     let a = b .before .args in
-    (omega arith, b .loop .inv .1, simp length-set (b .loop .inv .2), rw (b .loop .inv .3) (fill-more (replicate setWords 0) (a .t1) (b .loop .i) (omega arith) (omega arith)))
+    (omega arith, b .loop .inv .1, simp length-set (b .loop .inv .2), rw (b .loop .inv .3) (front-more (replicate setWords 0) (a .t1) (b .loop .i) (omega arith) (omega arith)))
 
 returns : tie.Need-returns Inv-loop μ-loop
 unfolding termOf
 returns c =
     let b = c .before in
     let e : b .loop .i ≡ setWords = omega arith in
-    ap number ((rw e at (b .loop .inv .3)) ∙ fill-all (replicate setWords 0) (b .before .args .t1) setWords refl)
+    ap number ((rw e at (b .loop .inv .3)) ∙ front-all (replicate setWords 0) (b .before .args .t1) setWords refl)
 
 pub set-of-spec : {M : Type 1} → statement M
 set-of-spec =

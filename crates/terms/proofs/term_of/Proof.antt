@@ -6,7 +6,7 @@ use borrow.Author.Needs.{needs}
 use lib.ListN.{length, replicate, length-set}
 use lib.Seq.{paste}
 use Rattle.limits.specs.Limits.{setWords, termWords}
-use Rattle.words.proofs.Parts.{fill-more}
+use Rattle.words.proofs.Parts.{front-more}
 use Rattle.terms.specs.Terms.{termOf}
 use Rattle.terms.proofs.Decode.{term-made}
 use Rattle.terms.proofs.term_of.Statement.{statement}
@@ -43,7 +43,7 @@ loop-again : tie.Need-loop-again Inv-loop μ-loop
 loop-again c =
     let b = c .before in
     let a = b .before .args in
-    (omega arith, b .loop .inv .1, simp length-set (b .loop .inv .2), rw (b .loop .inv .3) (fill-more (replicate termWords (a .c)) (a .t1) (b .loop .i) (omega arith) (omega arith)))
+    (omega arith, b .loop .inv .1, simp length-set (b .loop .inv .2), rw (b .loop .inv .3) (front-more (replicate termWords (a .c)) (a .t1) (b .loop .i) (omega arith) (omega arith)))
 
 returns : tie.Need-returns Inv-loop μ-loop
 returns c =

@@ -1,6 +1,6 @@
 -- `steps::check::admit` meets its contract: the phase first, then the search for the index. Assumes nothing.
 use Rattle.paper.specs.Rules.{stored}
-use Rattle.table.specs.Table.{firsts, entryAt}
+use Rattle.table.specs.Table.{storeOfColumns}
 use Rattle.table.proofs.Laws.{found-at, found-nothing}
 use Rattle.steps.proofs.Admitting.{admit-misplaced, admit-taken, admit-free}
 use borrow.Author.Needs.{needs}
@@ -10,7 +10,7 @@ use Rattle.steps.proofs.check.admit.Tie as tie
 returns : tie.Need-returns
 returns c =
     let a = c .before .args in
-    λ starts counts pool. admit-misplaced (a .place) (a .phase) (stored (firsts (entryAt (a .indices .now) starts counts pool) (a .n)) (a .index)) (c .if1 .taken)
+    λ starts counts pool. admit-misplaced (a .place) (a .phase) (stored (storeOfColumns (a .indices .now) starts counts pool (a .n)) (a .index)) (c .if1 .taken)
 
 find-requires : tie.Need-find-requires
 find-requires c κs = search needs

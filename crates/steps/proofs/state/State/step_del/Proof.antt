@@ -39,7 +39,7 @@ returns-2 : tie.Need-returns-2
 returns-2 c =
     let b = c .before .before .before .before .before .before .before .before .before .before in
     λ capacity scratch room. del-missing (del-read (b .pre .0) (c .before .before .before .before .before .before .small-at .ensures)) (c .before .before .before .before .before .before .before .if1 .left)
-    (absent-stored (b .args .t1 .table) (b .args .pool .now) _ (found-nothing (c .before .enum-told .given .1) (c .before .before .before .find .ensures))) (c .judged2 .ensures)
+    (absent-stored (b .args .t1 .table .indices) (b .args .t1 .table .starts) (b .args .t1 .table .counts) (b .args .pool .now) (b .args .t1 .table .stored) _ (found-nothing (c .before .enum-told .given .1) (c .before .before .before .find .ensures))) (c .judged2 .ensures)
 
 -- how long the columns are
 long : (c : tie.Start) → let t = c .args .t1 .table in (length (t .indices) ≡ storedPolynomials) × (length (t .starts) ≡ storedPolynomials) × (length (t .counts) ≡ storedPolynomials)

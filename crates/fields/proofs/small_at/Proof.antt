@@ -1,10 +1,10 @@
--- `pairs::small_at` meets its contract: a number that half a word holds is one that a word holds. No loop.
+-- `fields::small_at` meets its contract: a number that half a word holds is one that a word holds. No loop.
 -- Assumes nothing.
 use native.Mathlib.Omega.{arith}
-use Rattle.fields.proofs.Taking.{good-weaken}
-use Rattle.pairs.proofs.Walking.{small-word, small-got}
-use Rattle.pairs.proofs.small_at.Statement.{statement}
-use Rattle.pairs.proofs.small_at.Tie as tie
+use Rattle.fields.proofs.Ranges.{small-word}
+use Rattle.fields.proofs.Taking.{good-weaken, small-got}
+use Rattle.fields.proofs.small_at.Statement.{statement}
+use Rattle.fields.proofs.small_at.Tie as tie
 
 take-decimal-requires : tie.Need-take-decimal-requires
 take-decimal-requires c κs = good-weaken small-word (c .before .pre)
