@@ -2,9 +2,6 @@
 use libc::STDIN_FILENO;
 use libc::STDOUT_FILENO;
 
-// How often a text is read and checked.
-const TURNS: usize = 1;
-
 // Reads a text into this room, as much as it holds, and says what the checker says of it.
 fn check_input(text: &mut [u8], pool: &mut [u64], scratch: &mut [u64]) {
     let n = io::read_full(STDIN_FILENO, text);
@@ -19,9 +16,5 @@ fn main() {
     let mut text = [0u8; limits::TEXT_BYTES];
     let mut pool = [0u64; limits::HOST_POOL];
     let mut scratch = [0u64; limits::HOST_SCRATCH];
-    let mut turn = 0;
-    while turn < TURNS {
-        check_input(&mut text, &mut pool, &mut scratch);
-        turn += 1;
-    }
+    check_input(&mut text, &mut pool, &mut scratch);
 }

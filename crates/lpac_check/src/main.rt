@@ -32,6 +32,7 @@ fn too_long() -> Answer {
 }
 
 fn main() {
+    // one byte more than is taken, so that a longer text is known by its length
     let mut text = [0u8; limits::HOST_TEXT_BYTES + 1];
     let n = io::read_full(STDIN_FILENO, &mut text);
     if limits::HOST_TEXT_BYTES < n {
