@@ -38,7 +38,7 @@ pub record IndexAt (line : Bytes) (m i : ℕ) : Type 0 where
   pub same : word .value ≡ i
 
 tabbed-index : {line : Bytes} {m i : ℕ} {r : Bytes} → Tabbed decimal line m i r → isIndex i ≡ true → IndexAt line (m + 1) i
-tabbed-index {i = i} t e = record { word = tab-good decimal isWord t (small-word i (small-index i e)); same = refl }
+tabbed-index {i = i} t e = let g = tab-good decimal isWord t (small-word i (small-index i e)) in record { word = g; same = same-value (g .reads) (t .reads) }
 
 -- by the kind of the statement
 abbrev pub Indexed : Bytes → Statement → Kind → Type 0
