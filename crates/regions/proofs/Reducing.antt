@@ -6,13 +6,13 @@ use Prim.Native.Nat.{ℕ, _+_, _-_, _*_, _^_, _≤_, _<_}
 use native.Mathlib.Nat.{mul-one}
 use native.Mathlib.Omega.{arith}
 use lib.Bits.{bitOr, or-zero-r}
-use lib.ListN.{length, drop}
+use lib.ListN.{length, drop, replicate}
 use lib.Seq.{paste}
 use borrow.Rule.Slice.PartMut.{putMid}
 use Rattle.ground.proofs.Congruence.{Same, same-refl, same-eq, same-add, _⊳_}
 use Rattle.words.specs.Parts.{part, Within}
 use Rattle.words.proofs.Parts.{within-trans, within-wider, length-part, put-part, put-within}
-use Rattle.limits.specs.Limits.{fieldTerms, termWords}
+use Rattle.limits.specs.Limits.{fieldTerms, setWords, termWords}
 use Rattle.algebra.specs.Polynomial.{Term, Poly, sumIf, reduce, extension}
 use Rattle.algebra.proofs.Values.{keep, sumIf-append}
 use Rattle.algebra.proofs.Sums.{reduce-sums}
@@ -92,7 +92,7 @@ last-first k h m p = reduce-sums k (p ++ (record { set = m; coef = 2 ^ 64 - 1 } 
         ⊳ same-add {a = keep (f m) (2 ^ 64 - 1)} {c = sumIf f p} (one (f m)) same-refl
 
 -- the term t written behind p, and the stated region reduced
-pub defined : (k v n m a : ℕ) (s t x y : List ℕ) → k ≤ 64 → n < fieldTerms → factorAt ≤ length s → a ≡ bitOr (2 ^ v) (number (0 ∷ 0 ∷ 0 ∷ 0 ∷ []))
+pub defined : (k v n m a : ℕ) (s t x y : List ℕ) → k ≤ 64 → n < fieldTerms → factorAt ≤ length s → a ≡ bitOr (2 ^ v) (number (replicate setWords 0))
     → length t ≡ termWords → termOf t ≡ record { set = a; coef = 2 ^ 64 - 1 } → x ≡ paste s (statedAt + n * termWords) t termWords
     → Leaves (n + 1) (reduce k (decode (n + 1) (part statedAt (factorAt - statedAt) x))) (part statedAt (factorAt - statedAt) x) y m
     → StatedIs (extension k v (decode n (drop statedAt s))) s (putMid statedAt (factorAt - statedAt) x y) m

@@ -1,12 +1,13 @@
 -- What makes a step: a refusal, a ring, and a deletion. Assumes nothing.
 use mathlib.Core.Path.{_≡_, refl, sym, ap, subst, _∙_}
 use mathlib.Core.Bool.{Bool, true, false, not, cond}
-use mathlib.Core.List.{List, [], _∷_}
+use mathlib.Core.List.{List, []}
 use Prim.Native.Nat.{ℕ, _<_}
 use native.Mathlib.Omega.{arith}
 use lib.Dec.{eqb}
-use lib.ListN.{length}
+use lib.ListN.{length, replicate}
 use borrow.Author.Tests.{eq-eqb, ne-eqb}
+use Rattle.limits.specs.Limits.{setWords}
 use Rattle.limits.specs.Verdicts.{ORDER, MISSING}
 use Rattle.words.specs.Words.{number}
 use Rattle.terms.specs.Terms.{decode}
@@ -35,7 +36,7 @@ pub fresh : (t : Table) → table.Fresh t → Fresh (record {
   phase = 0;
   ring = 0;
   table = t;
-  seen = 0 ∷ 0 ∷ 0 ∷ 0 ∷ [];
+  seen = replicate setWords 0;
   «goal_terms» = 0;
   reached = false;
   products = 0;
