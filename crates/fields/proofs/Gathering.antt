@@ -13,7 +13,7 @@ use lib.Seq.{drop-cons, paste}
 use borrow.Author.Tests.{ltb-true, ltb-false, lt-ltb, not-true}
 use Rattle.ground.specs.Lists.{every}
 use Rattle.words.specs.Parts.{Within}
-use Rattle.ground.proofs.Tests.{split, and-left, and-right, and-both}
+use Rattle.ground.proofs.Tests.{split, and-left, and-right, and-both, cond-no, cond-yes}
 use Rattle.words.proofs.Parts.{within-refl, within-trans, within-wider}
 use Rattle.limits.specs.Limits.{termWords, fieldTerms}
 use Rattle.algebra.specs.Polynomial.{Term, Poly}
@@ -23,7 +23,7 @@ use Rattle.paper.specs.Grammar.{Bytes, got, each, decimal, term, asWritten, pol
 use Rattle.paper.proofs.Reading.{takes-polynomial, after-length}
 use Rattle.paper.proofs.Pieces.{isZero, term-parts, PolynomialParts, polynomial-parts, each-empty, term-zero, decimal-zero}
 use Rattle.paper.specs.Statement.{WrittenTerm, Written, isTerm, inRange, tooManyTerms}
-use Rattle.paper.proofs.Ranges.{term-in-range, cond-no, cond-yes}
+use Rattle.paper.proofs.Ranges.{term-in-range}
 use Rattle.reader.specs.Places.{Got}
 use Rattle.reader.specs.Fields.{moreTerms, fewTerms, fewMore}
 use Rattle.reader.proofs.Scans.{Passed, passed-stop}

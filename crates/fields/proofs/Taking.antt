@@ -8,14 +8,14 @@ use native.Mathlib.Omega.{arith}
 use lib.Bits.{bitOr, or-comm}
 use lib.ListN.{length, drop, getD, replicate, length-append}
 use Rattle.ground.specs.Lists.{every}
-use Rattle.ground.proofs.Tests.{and-left, and-right}
+use Rattle.ground.proofs.Tests.{and-left, and-right, cond-yes, cond-no}
+use Rattle.ground.proofs.Lists.{every-append}
 use Rattle.limits.specs.Limits.{greatestIndex, setWords}
 use Rattle.algebra.proofs.Unions.{or-assoc}
 use Rattle.words.specs.Words.{number}
 use Rattle.paper.specs.Grammar.{Bytes, Read, got, stuck, Reader, next, each, digits, decimal}
 use Rattle.paper.specs.Statement.{setOf}
-use Rattle.paper.proofs.Ranges.{cond-yes, cond-no}
-use Rattle.paper.proofs.Reading.{clash, parted, Takes, each-more, each-stuck, every-append}
+use Rattle.paper.proofs.Reading.{clash, parted, Takes, each-more, each-stuck}
 use Rattle.paper.proofs.Pieces.{digits-more, digits-least, decimal-first, decimal-low, decimal-high, decimal-end}
 use Rattle.reader.specs.Places.{Got}
 use Rattle.reader.proofs.Fields.{Tabbed}

@@ -1,5 +1,6 @@
 pub mod Tests
 pub mod Congruence
 pub mod Square
-pub mod Eight
+pub mod Lists
+pub mod Numbers
 pub mod Decided

@@ -1,5 +1,5 @@
 -- Tests and the facts they stand for. Assumes nothing.
-use mathlib.Core.Path.{_≡_, refl, sym}
+use mathlib.Core.Path.{_≡_, refl, sym, ap}
 use mathlib.Core.Bool.{Bool, true, false, _&&_, _||_, cond}
 use mathlib.Core.Logic.{_⊎_, inl, inr}
 
@@ -42,3 +42,9 @@ or-none-right false y e = e
 pub by-cond : {A : Type 0} (P : A → Type 0) (b : Bool) {x y : A} → (b ≡ true → P x) → (b ≡ false → P y) → P (cond b x y)
 by-cond P true f g = f refl
 by-cond P false f g = g refl
+
+pub cond-yes : {A : Type 0} (b : Bool) (x y : A) → b ≡ true → cond b x y ≡ x
+cond-yes {A} b x y e = ap (λ (c : Bool). cond c x y) e
+
+pub cond-no : {A : Type 0} (b : Bool) (x y : A) → b ≡ false → cond b x y ≡ y
+cond-no {A} b x y e = ap (λ (c : Bool). cond c x y) e

@@ -8,8 +8,9 @@ use native.Mathlib.Omega.{arith}
 use lib.Bits.{bitOr}
 use lib.ListN.{length, drop}
 use borrow.Author.Tests.{lt-ltb, le-ltb}
+use Rattle.ground.proofs.Lists.{take-fewer, drop-more}
 use Rattle.words.specs.Parts.{part, Within}
-use Rattle.words.proofs.Parts.{take-fewer, drop-more, above-kept, below-kept}
+use Rattle.words.proofs.Parts.{above-kept, below-kept}
 use Rattle.limits.specs.Limits.{fieldTerms, lineProducts, termWords, mostPoolTerms}
 use Rattle.limits.specs.Verdicts.{MISSING, PRODUCTS}
 use Rattle.algebra.specs.Polynomial.{Poly, products, vars}

@@ -5,6 +5,7 @@ use Prim.Native.Nat.{ℕ, _+_, _*_, _≤_}
 use native.Mathlib.Omega.{arith}
 use lib.ListN.{length, take, drop, take-append-drop}
 use lib.Seq.{length-take-le, length-front, take-append-le, drop-append-le, take-take, drop-drop}
+use Rattle.ground.proofs.Numbers.{row-more}
 use Rattle.words.specs.Parts.{part}
 use Rattle.words.proofs.Parts.{within-trans, within-wider, above-kept}
 use Rattle.limits.specs.Limits.{termWords}
@@ -12,7 +13,7 @@ use Rattle.algebra.specs.Polynomial.{Poly, times, products}
 use Rattle.terms.specs.Terms.{termOf, decode, rounded, Appended}
 use Rattle.terms.proofs.Decode.{decode-same, decode-part}
 use Rattle.terms.proofs.Products.{appended-start}
-use Rattle.regions.proofs.Squares.{row-more, one-row}
+use Rattle.regions.proofs.Squares.{one-row}
 
 -- ---- a run at the front of the words, of which the first w were lent
 front-appended : (n m w : ℕ) (q : Poly) (x ys : List ℕ) → (n + m) * termWords ≤ w → w ≤ length x → Appended 0 n m q (take w x) ys → Appended 0 n m q x (ys ++ drop w x)

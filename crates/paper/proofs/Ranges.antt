@@ -1,6 +1,6 @@
 -- What the tests of ranges say of a ring and of a term, and choices by a test. Assumes nothing.
-use mathlib.Core.Path.{_≡_, ap}
-use mathlib.Core.Bool.{Bool, true, false, _&&_, cond}
+use mathlib.Core.Path.{_≡_}
+use mathlib.Core.Bool.{Bool, true, _&&_}
 use Prim.Native.Nat.{ℕ, _≤_}
 use lib.Dec.{leb}
 use borrow.Author.Tests.{leb-true}
@@ -34,9 +34,3 @@ term-in-range t e =
       most = leb-true (t .magnitude) greatestMagnitude (and-right s m w);
       named = and-right (s && m) (every isVariable (t .variables)) e;
     }
-
-pub cond-yes : {A : Type 0} (b : Bool) (x y : A) → b ≡ true → cond b x y ≡ x
-cond-yes {A} b x y e = ap (λ (c : Bool). cond c x y) e
-
-pub cond-no : {A : Type 0} (b : Bool) (x y : A) → b ≡ false → cond b x y ≡ y
-cond-no {A} b x y e = ap (λ (c : Bool). cond c x y) e

@@ -1,8 +1,8 @@
 -- Readers: one after the other, what they take of their bytes, and that a bound past the bytes left changes nothing.
 -- Assumes nothing.
 use mathlib.Core.Path.{_≡_, refl, sym, ap, ap₂, _∙_}
-use mathlib.Core.Bool.{Bool, true, false, _&&_, not, cond}
-use mathlib.Core.List.{List, [], _∷_, _++_}
+use mathlib.Core.Bool.{Bool, true, false, not, cond}
+use mathlib.Core.List.{List, [], _∷_}
 use Prim.Native.Nat.{ℕ, zero, suc, _+_, _-_, _*_, _≤_, _<_}
 use Prim.Native.Char.{code}
 use native.Mathlib.Nat.{not-suc-le-zero}
@@ -12,6 +12,7 @@ use lib.Dec.{eqb, leb}
 use lib.ListN.{length, take, drop, getD, length-drop, drop-of-length-le}
 use lib.Seq.{drop-cons, drop-drop, take-add}
 use borrow.Author.Tests.{leb-true, eqb-true, eq-eqb, ne-eqb}
+use Rattle.ground.proofs.Lists.{every-append}
 use Rattle.ground.specs.Lists.{every}
 use Rattle.ground.proofs.Tests.{and-left, and-both}
 use Rattle.paper.specs.Grammar.{Bytes, bytes, Read, got, stuck, Reader, next, give, literal, upTo, each, isDigit, digits, decimal, sign, term, polynomial, tab, field, pair}
@@ -37,15 +38,6 @@ module _ {A B : Type 0} where
   parted (stuck s) f e = absurd (clash e)
 
 -- ---- what a reader takes
-pub every-append : {A : Type 0} (f : A → Bool) (xs ys : List A) → every f (xs ++ ys) ≡ (every f xs && every f ys)
-unfolding every
-every-append f [] ys = refl
-every-append f (x ∷ xs) ys = go (f x) (every-append f xs ys)
-  where
-    go : (b : Bool) → every f (xs ++ ys) ≡ (every f xs && every f ys) → (b && every f (xs ++ ys)) ≡ ((b && every f xs) && every f ys)
-    go true ih = ih
-    go false ih = refl
-
 -- r is what s leaves after n bytes or more, all of which are allowed
 pub record After (allowed : ℕ → Bool) (n : ℕ) (s r : Bytes) : Type 0 where
   pub taken : ℕ

@@ -1,13 +1,12 @@
 -- Scans of readers in a row, and of as many items as follow. Assumes nothing.
-use mathlib.Core.Path.{_≡_, refl, sym, ap, ap₂, _∙_}
-use mathlib.Core.Bool.{Bool, true, _&&_, and-true}
+use mathlib.Core.Path.{_≡_, refl, sym, ap, _∙_}
+use mathlib.Core.Bool.{Bool}
 use mathlib.Core.List.{List, [], _∷_, _++_, append-assoc, append-nil}
 use Prim.Native.Nat.{ℕ, _+_, _≤_, _<_}
 use native.Mathlib.Omega.{arith}
 use lib.ListN.{length, drop, getD, length-drop}
-use Rattle.ground.specs.Lists.{every}
 use Rattle.paper.specs.Grammar.{Bytes, Read, got, stuck, Reader, next, give, each}
-use Rattle.paper.proofs.Reading.{next-assoc, Takes, after-length, each-more, each-stuck, every-append}
+use Rattle.paper.proofs.Reading.{next-assoc, Takes, after-length, each-more, each-stuck}
 use Rattle.reader.specs.Places.{Got, Fails}
 use Rattle.reader.specs.Fields.{Scanned, Scans}
 use Rattle.reader.specs.declared.field.FieldScan.{FieldScan}
@@ -126,12 +125,3 @@ pub passed-scans : {A : Type 0} (c : ℕ) (item : Reader A) (s : Bytes) (at : �
 passed-scans c item s at ranged few i p e f =
     let h = f (p .items) (p .holds) in
     record { said = record { value = p .items; taken = passed-stop c item s at i p e; in-range = h .0; short = h .1 } }
-
-pub every-none : {A : Type 0} (f : A → Bool) → true ≡ every f []
-unfolding every
-every-none f = refl
-
--- a test of every item, one more at the end
-pub every-more : {A : Type 0} (f : A → Bool) (xs : List A) (x : A) (a b : Bool) → a ≡ every f xs → b ≡ f x → (a && b) ≡ every f (xs ++ (x ∷ []))
-unfolding every
-every-more f xs x a b p q = rw (every-append f xs (x ∷ [])) (ap₂ _&&_ p (q ∙ sym (and-true (f x))))

@@ -14,12 +14,12 @@ use borrow.Author.Count.{below-more}
 use borrow.Author.Tests.{eqb-false, ne-eqb, not-true}
 use Rattle.ground.specs.Lists.{every}
 use Rattle.ground.proofs.Tests.{and-left, and-right}
-use Rattle.ground.proofs.Eight.{below-eight}
-use Rattle.words.specs.Parts.{part}
+use Rattle.words.specs.Parts.{part, amongEight}
 use Rattle.words.proofs.Parts.{length-part}
+use Rattle.words.proofs.Eight.{below-eight}
 use Rattle.paper.specs.Grammar.{Bytes, onFirst, lines, got}
 use Rattle.paper.proofs.Reading.{inField, takes-polynomial}
-use Rattle.reader.specs.Search.{amongEight, Without, FirstOrEnd, LineEnd, EndsField, WholeField, FieldEnd}
+use Rattle.reader.specs.Search.{Without, FirstOrEnd, LineEnd, EndsField, WholeField, FieldEnd}
 
 -- ---- b is none of the bytes from at up to i
 module _ (b : ℕ) (s : Bytes) (at : ℕ) where

@@ -1,21 +1,14 @@
 -- Where a byte first stands, and where a line of a text and a field of a line end.
 use mathlib.Core.Path.{_≡_}
-use mathlib.Core.Bool.{Bool, true, false, _||_}
+use mathlib.Core.Bool.{true, false}
 use mathlib.Core.List.{[], _∷_}
 use Prim.Native.Nat.{ℕ, _+_, _-_, _≤_, _<_}
 use Prim.Native.Char.{code}
-use lib.Dec.{eqb}
 use lib.ListN.{length, drop, getD}
 use Rattle.words.specs.Parts.{part}
 use Rattle.paper.specs.Grammar.{Bytes, lines, got, polynomial}
 use Rattle.paper.specs.Statement.{Written}
 use Rattle.reader.specs.Places.{Got}
-
--- whether b is one of the eight bytes from i on
-abbrev pub amongEight : Bytes → ℕ → ℕ → Bool
-amongEight s i b =
-    eqb (getD s i 0) b || eqb (getD s (i + 1) 0) b || eqb (getD s (i + 2) 0) b || eqb (getD s (i + 3) 0) b
-    || eqb (getD s (i + 4) 0) b || eqb (getD s (i + 5) 0) b || eqb (getD s (i + 6) 0) b || eqb (getD s (i + 7) 0) b
 
 -- b does not stand from at up to r
 pub record Without (b : ℕ) (s : Bytes) (at r : ℕ) : Type 0 where

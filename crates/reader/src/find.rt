@@ -2,7 +2,8 @@
 ghost use mathlib.Core.Path.{_≡_};
 ghost use Prim.Native.Nat.{_+_, _≤_};
 ghost use lib.ListN.{length};
-ghost use Rattle.reader.specs.Search.{amongEight, Without, FirstOrEnd, LineEnd, WholeField, FieldEnd};
+ghost use Rattle.words.specs.Parts.{amongEight};
+ghost use Rattle.reader.specs.Search.{Without, FirstOrEnd, LineEnd, WholeField, FieldEnd};
 
 // How many bytes are looked at in one turn: the compiler makes one test of so many.
 const BLOCK: usize = 8;

@@ -1,5 +1,7 @@
 pub mod Reordered
 pub mod Arranged
+pub mod Moves
+pub mod Holes
 pub mod Heaps
 pub mod Sifting
 pub mod Draining

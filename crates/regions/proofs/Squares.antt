@@ -4,12 +4,13 @@ use mathlib.Core.Bool.{Bool}
 use mathlib.Core.List.{List, [], _∷_, _++_, append-nil, append-assoc}
 use mathlib.Core.Logic.{⊎-elim}
 use Prim.Native.Nat.{ℕ, _+_, _*_, _≤_, _<_}
-use native.Mathlib.Nat.{zero-mul, mul-le-mul-right, mul-le-mul}
+use native.Mathlib.Nat.{zero-mul, mul-le-mul}
 use native.Mathlib.Omega.{arith}
 use lib.Dec.{ltb}
 use lib.ListN.{take, drop}
 use lib.Seq.{drop-drop}
 use borrow.Author.Tests.{ltb-true, ltb-false}
+use Rattle.ground.proofs.Numbers.{row-more, row-fits}
 use Rattle.words.specs.Parts.{part}
 use Rattle.words.proofs.Parts.{within-refl, within-trans, within-wider, above-kept}
 use Rattle.ground.proofs.Tests.{split}
@@ -29,13 +30,6 @@ products-last (u ∷ p) q t = ap (λ (r : Poly). times u q ++ r) (products-last 
 -- ---- how long the side of a square can be, and how many products are in its rows
 pub side : (n : ℕ) → n * n ≤ lineProducts → n ≤ 32
 side n h = ⊎-elim (λ e. let l : 33 ≤ n = ltb-true 32 n e in absurd (omega (arith, mul-le-mul l l))) (λ e. ltb-false 32 n e) (split (ltb 32 n))
-
--- one row more of n each
-pub row-more : (i n : ℕ) → (i + 1) * n ≡ i * n + n
-row-more i n = omega arith
-
-pub row-fits : (i m n : ℕ) → i < m → i * n + n ≤ m * n
-row-fits i m n h = rw (← row-more i n) (mul-le-mul-right {m = i + 1} {n = m} n (omega arith))
 
 -- the first i rows of the square of the n terms of the stated region of s
 abbrev pub Rows : ℕ → ℕ → List ℕ → List ℕ → Type 0

@@ -8,6 +8,7 @@ use native.Mathlib.Omega.{arith}
 use lib.Dec.{eqb, leb, ltb}
 use lib.ListN.{length, drop, getD, replicate}
 use borrow.Author.Tests.{leb-true, leb-false, lt-ltb, le-ltb}
+use Rattle.ground.proofs.Tests.{cond-yes, cond-no}
 use Rattle.limits.specs.Limits.{fieldTerms, termWords, lineBytes, leastSpellingScratch}
 use Rattle.limits.specs.Verdicts.{ACCEPTED, SHORT, LONGLINE, FULL}
 use Rattle.algebra.specs.Polynomial.{Poly, reduce, Reduced}
@@ -17,7 +18,7 @@ use Rattle.terms.specs.Terms.{none, decode, Leaves}
 use Rattle.paper.specs.Grammar.{Bytes, polynomial}
 use Rattle.paper.specs.Statement.{asTerm, reduced}
 use Rattle.paper.specs.Spelling.{Spelled, refuse, spell, spellRead, wholeField, spellField, outputAfter, scratchAfter}
-use Rattle.paper.proofs.Ranges.{ring-most, cond-yes, cond-no}
+use Rattle.paper.proofs.Ranges.{ring-most}
 use Rattle.fields.specs.Worded.{worded}
 use Rattle.fields.specs.Fields.{Good, isField, FieldAt}
 use Rattle.fields.specs.declared.FieldRun.{FieldRun}

@@ -8,8 +8,8 @@ use lib.Bits.{bitOr}
 use lib.Dec.{ltb}
 use lib.ListN.{length, drop}
 use borrow.Author.Tests.{lt-ltb, le-ltb}
+use Rattle.ground.proofs.Lists.{drop-more}
 use Rattle.words.specs.Parts.{Within}
-use Rattle.words.proofs.Parts.{drop-more}
 use Rattle.limits.specs.Limits.{greatestRing, fieldTerms, lineProducts}
 use Rattle.limits.specs.Verdicts.{MISSING, SEEN, PRODUCTS, MISMATCH, NOTBIT}
 use Rattle.algebra.specs.Polynomial.{Poly, has, vars, equal, reduce, product, extension}

@@ -7,7 +7,7 @@ use native.Mathlib.Omega.{arith}
 use lib.Bits.{bitOr}
 use lib.Dec.{ltb}
 use lib.ListN.{length, drop}
-use Rattle.words.proofs.Parts.{drop-more}
+use Rattle.ground.proofs.Lists.{drop-more}
 use Rattle.limits.specs.Limits.{lineProducts}
 use Rattle.limits.specs.Verdicts.{MISSING, SEEN, PRODUCTS, MISMATCH, NOTBIT}
 use Rattle.algebra.specs.Polynomial.{has, Poly, vars, equal, reduce, product, extension, allVars}

@@ -8,7 +8,7 @@ use lib.Bits.{bitOr}
 use lib.Dec.{eqb}
 use lib.ListN.{drop}
 use borrow.Author.Tests.{eq-eqb, ne-eqb}
-use Rattle.words.proofs.Parts.{drop-more}
+use Rattle.ground.proofs.Lists.{drop-more}
 use Rattle.limits.specs.Verdicts.{ORDER}
 use Rattle.algebra.specs.Polynomial.{Poly, vars}
 use Rattle.words.specs.Words.{number}

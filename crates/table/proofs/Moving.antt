@@ -7,8 +7,9 @@ use native.Mathlib.Nat.{eq-or-lt-of-le}
 use native.Mathlib.Omega.{arith}
 use lib.ListN.{length, take, drop, getD, set, length-drop}
 use lib.Seq.{paste, length-paste-head, getD-append-add, getD-drop, take-append-le, take-take, drop-drop, length-take-le, getD-set-same, getD-set-other}
+use Rattle.ground.proofs.Lists.{drop-take}
 use Rattle.words.specs.Parts.{part}
-use Rattle.words.proofs.Parts.{drop-take, drop-to-paste, paste-more}
+use Rattle.words.proofs.Parts.{drop-to-paste, paste-more}
 use Rattle.table.specs.Steps.{Closed}
 
 -- past what was pasted, the list is as it was

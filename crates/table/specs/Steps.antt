@@ -1,9 +1,7 @@
 -- What the functions of the table find and leave.
 use mathlib.Core.Path.{_≡_}
-use mathlib.Core.Bool.{Bool, _||_}
 use mathlib.Core.List.{List, []}
 use Prim.Native.Nat.{ℕ, _+_, _-_, _≤_, _<_}
-use lib.Dec.{eqb}
 use lib.ListN.{getD, replicate}
 use Rattle.limits.specs.Limits.{storedPolynomials}
 use Rattle.table.specs.declared.Found.{Found}
@@ -20,12 +18,6 @@ pub record FirstAt (column : List ℕ) (n x j : ℕ) : Type 0 where
   pub inside : j < n
   pub here : getD column j 0 ≡ x
   pub earlier : Absent column j x
-
--- whether x is one of the eight from j on
-abbrev pub amongEight : List ℕ → ℕ → ℕ → Bool
-amongEight column j x =
-    eqb (getD column j 0) x || eqb (getD column (j + 1) 0) x || eqb (getD column (j + 2) 0) x || eqb (getD column (j + 3) 0) x
-    || eqb (getD column (j + 4) 0) x || eqb (getD column (j + 5) 0) x || eqb (getD column (j + 6) 0) x || eqb (getD column (j + 7) 0) x
 
 abbrev pub Finds : List ℕ → ℕ → ℕ → Found → Type 0
 Finds column n x (At j) = FirstAt column n x j

@@ -5,12 +5,12 @@ use Prim.Native.Nat.{ℕ, zero, suc, min, _+_, _-_, _*_, _^_, _≤_}
 use native.Mathlib.Omega.{arith}
 use lib.ListN.{length, take, drop, length-take, length-drop, take-append-drop}
 use lib.Seq.{take-all, take-add, drop-drop}
+use Rattle.ground.proofs.Lists.{drop-take}
 use Rattle.limits.specs.Limits.{setWords, termWords}
 use Rattle.algebra.specs.Polynomial.{Term, Poly}
 use Rattle.words.specs.Parts.{part, Within}
 use Rattle.words.specs.Words.{number}
 use Rattle.words.proofs.Laws.{Words, words-take, words-drop, number-inj, number-take}
-use Rattle.words.proofs.Parts.{drop-take}
 use Rattle.words.proofs.Decided.{one-within}
 use Rattle.terms.specs.Terms.{termOf, decode, Appended}
 use Rattle.terms.proofs.Decode.{term-part}

@@ -4,13 +4,15 @@ use mathlib.Core.List.{List, [], _∷_, _++_}
 use Prim.Native.Nat.{ℕ, zero, suc, _+_, _-_, _*_, _≤_, _<_}
 use native.Mathlib.Omega.{arith}
 use native.Mathlib.Nat.{suc-add, not-suc-le-zero, le-of-suc-le-suc}
+use native.Mathlib.Numerals.{add-one}
 use lib.ListN.{length, take, drop, getD, set}
-use lib.Seq.{take-take, take-at, drop-at, getD-take, getD-drop, drop-drop, take-all, paste, take-paste, drop-paste, set-split}
+use lib.Seq.{drop-cons, take-take, take-at, drop-at, getD-take, getD-drop, drop-drop, take-all, paste, take-paste, drop-paste, set-split}
+use Rattle.ground.proofs.Lists.{take-fewer, drop-more, drop-take}
 use Rattle.limits.specs.Limits.{setWords, termWords}
 use Rattle.algebra.specs.Polynomial.{Term, Poly}
 use Rattle.words.specs.Parts.{part, Within}
 use Rattle.words.specs.Words.{number}
-use Rattle.words.proofs.Parts.{take-fewer, drop-more, drop-take, below-kept, part-paste, paste-within}
+use Rattle.words.proofs.Parts.{below-kept, part-paste, paste-within}
 use Rattle.terms.specs.Terms.{termOf, none, decode}
 
 pub decode-length : (n : ℕ) (s : List ℕ) → length (decode n s) ≡ n
@@ -47,6 +49,14 @@ unfolding decode
 decode-at zero i s h = absurd (not-suc-le-zero h)
 decode-at (suc n) zero s h = sym (term-part s)
 decode-at (suc n) (suc i) s h = decode-at n i (drop termWords s) (le-of-suc-le-suc h) ∙ ap (λ (l : List ℕ). termOf (take termWords l)) (past i s)
+
+-- t is the i-th term as it was read
+module _ (n i : ℕ) (s t : List ℕ) (h : i < n) (e : t ≡ part (i * termWords) termWords s) where
+  pub decode-read : getD (decode n s) i none ≡ termOf t
+  decode-read = decode-at n i s h ∙ ap termOf (sym e)
+
+  pub decode-rest : drop i (decode n s) ≡ termOf t ∷ drop (i + 1) (decode n s)
+  decode-rest = drop-cons (decode n s) i none (rw (decode-length n s) h) ∙ ap₂ _∷_ decode-read (ap (λ (k : ℕ). drop k (decode n s)) (sym (add-one i)))
 
 pub decode-add : (i m : ℕ) (s : List ℕ) → decode (i + m) s ≡ decode i s ++ decode m (drop (i * termWords) s)
 unfolding decode

@@ -4,11 +4,9 @@ use mathlib.Core.Bool.{Bool, true, false, _&&_}
 use mathlib.Core.List.{List, [], _∷_}
 use Prim.Native.Nat.{ℕ, suc, _+_, _-_, _*_, _≤_, _<_}
 use native.Mathlib.Omega.{arith}
-use native.Mathlib.Numerals.{add-one}
 use lib.Bits.{bitOr, or-zero-r}
 use lib.Dec.{eqb}
 use lib.ListN.{length, getD, drop, drop-of-length-le}
-use lib.Seq.{drop-cons}
 use borrow.Author.Tests.{eqb-true, eq-eqb}
 use Rattle.ground.proofs.Tests.{bool-ext}
 use Rattle.limits.specs.Limits.{setWords, termWords}
@@ -16,8 +14,8 @@ use Rattle.algebra.specs.Polynomial.{Poly, equal, vars}
 use Rattle.algebra.proofs.Unions.{vars-append}
 use Rattle.words.specs.Parts.{part}
 use Rattle.words.proofs.Parts.{part-rest}
-use Rattle.terms.specs.Terms.{termOf, none, decode}
-use Rattle.terms.proofs.Decode.{decode-length, decode-at, decode-last}
+use Rattle.terms.specs.Terms.{termOf, decode}
+use Rattle.terms.proofs.Decode.{decode-length, decode-rest, decode-last}
 
 -- ---- one set and one coefficient
 module _ (t u : List ℕ) (b : Bool) (e : b ≡ eqb (termOf t .set) (termOf u .set)) where
@@ -47,14 +45,9 @@ run-longer m n a b h = unequal (decode m a) (decode n b) (λ e. h (sym (decode-l
 -- both runs from their i-th terms on, t and u, where o tells whether these are the same
 module _ (n i : ℕ) (a b : List ℕ) (h : i < n) (t u : List ℕ) (o : Bool) (et : t ≡ part (i * termWords) termWords a) (eu : u ≡ part (i * termWords) termWords b)
     (eo : o ≡ (eqb (termOf t .set) (termOf u .set) && eqb (termOf t .coef) (termOf u .coef))) where
-  from : (s w : List ℕ) → w ≡ part (i * termWords) termWords s → drop i (decode n s) ≡ termOf w ∷ drop (i + 1) (decode n s)
-  from s w e =
-      let l : i < length (decode n s) = rw (decode-length n s) h in
-      drop-cons (decode n s) i none l ∙ ap₂ _∷_ (decode-at n i s h ∙ ap termOf (sym e)) (ap (λ (k : ℕ). drop k (decode n s)) (sym (add-one i)))
-
   step : equal (drop i (decode n a)) (drop i (decode n b)) ≡ (o && equal (drop (i + 1) (decode n a)) (drop (i + 1) (decode n b)))
   unfolding equal
-  step = ap₂ equal (from a t et) (from b u eu)
+  step = ap₂ equal (decode-rest n i a t h et) (decode-rest n i b u h eu)
       ∙ ap (λ (x : Bool). x && equal (drop (i + 1) (decode n a)) (drop (i + 1) (decode n b))) (sym eo)
 
   module _ (m : ℕ) (e : m ≡ n) (inv : equal (decode m a) (decode n b) ≡ equal (drop i (decode m a)) (drop i (decode n b))) where

@@ -1,4 +1,5 @@
 pub mod Parts
+pub mod Eight
 pub mod Wrap
 pub mod Laws
 pub mod WordByWord

@@ -1,13 +1,13 @@
 -- Regions of a list: what a change within one leaves as it was, and what a copy into one does. Assumes nothing.
 use mathlib.Core.Path.{_≡_, refl, sym, ap, _∙_}
-use mathlib.Core.List.{List, [], _∷_, _++_, append-nil, append-assoc}
-use Prim.Native.Nat.{ℕ, zero, suc, _+_, _-_, _≤_, _<_}
+use mathlib.Core.List.{List, _++_, append-nil, append-assoc}
+use Prim.Native.Nat.{ℕ, _+_, _-_, _≤_, _<_}
 use native.Mathlib.Omega.{arith}
-use native.Mathlib.Nat.{suc-add}
 use native.Mathlib.Numerals.{add-one}
 use lib.ListN.{length, take, drop, getD, set, length-drop, drop-of-length-le}
-use lib.Seq.{length-take-le, take-nil, take-all, take-at, drop-at, take-take, drop-drop, paste, paste-suc, length-paste, take-paste, drop-paste}
+use lib.Seq.{length-take-le, take-all, take-at, drop-at, take-take, paste, paste-suc, length-paste, take-paste, drop-paste}
 use borrow.Rule.Slice.PartMut.{putMid, take-put, drop-put, same-len-mid, mid-len}
+use Rattle.ground.proofs.Lists.{take-fewer, drop-more, drop-take}
 use Rattle.words.specs.Parts.{part, Within}
 
 pub within-refl : {a e : ℕ} {s : List ℕ} → Within a e s s
@@ -16,21 +16,9 @@ within-refl = record { before = refl; after = refl; same = refl }
 pub within-trans : {a e : ℕ} {s x y : List ℕ} → Within a e s x → Within a e x y → Within a e s y
 within-trans p q = record { before = q .before ∙ p .before; after = q .after ∙ p .after; same = q .same ∙ p .same }
 
--- fewer elements of lists that agree agree
-pub take-fewer : (i n : ℕ) (s r : List ℕ) → i ≤ n → take n r ≡ take n s → take i r ≡ take i s
-take-fewer i n s r h e = sym (take-take i n r h) ∙ ap (take i) e ∙ take-take i n s h
-
-pub drop-more : (i n : ℕ) (s r : List ℕ) → i ≤ n → drop i r ≡ drop i s → drop n r ≡ drop n s
-drop-more i n s r h e = let f : i + (n - i) ≡ n = omega arith in rw (← f, ← drop-drop (n - i) i r, ← drop-drop (n - i) i s, e)
-
 -- a change within a region is one within a larger region
 pub within-wider : (a b d e : ℕ) (s r : List ℕ) → a ≤ b → d ≤ e → Within b d s r → Within a e s r
 within-wider a b d e s r h k w = record { before = take-fewer a b s r h (w .before); after = drop-more d e s r k (w .after); same = w .same }
-
-pub drop-take : (k m : ℕ) (a : List ℕ) → drop k (take (k + m) a) ≡ take m (drop k a)
-drop-take zero m a = let e : 0 + m ≡ m = omega arith in rw e
-drop-take (suc k) m [] = rw (suc-add k m, take-nil m)
-drop-take (suc k) m (x ∷ a) = rw (suc-add k m) (drop-take k m a)
 
 pub length-part : (a k : ℕ) (s : List ℕ) → a + k ≤ length s → length (part a k s) ≡ k
 length-part a k s h = length-take-le k (drop a s) (simp length-drop (omega arith))

@@ -1,22 +1,20 @@
 -- The spelling of a run, term by term, and of a term; how long they are at most. Assumes nothing.
-use mathlib.Core.Path.{_≡_, refl, sym, ap, ap₂, _∙_, subst}
+use mathlib.Core.Path.{_≡_, refl, sym, ap, _∙_, subst}
 use mathlib.Core.List.{List, [], _∷_, _++_}
 use Prim.Native.Nat.{ℕ, suc, _+_, _-_, _*_, _^_, _≤_, _<_}
 use Prim.Native.Char.{code}
-use native.Mathlib.Numerals.{add-one}
 use native.Mathlib.Omega.{arith}
 use lib.Dec.{leb}
 use lib.ListN.{length, drop, getD, length-append, drop-of-length-le}
 use lib.Pow.{pow-mono}
-use lib.Seq.{drop-cons}
 use Rattle.ground.specs.Lists.{gather, total}
 use Rattle.words.specs.Parts.{part}
 use Rattle.ground.proofs.Tests.{by-cond}
 use Rattle.limits.specs.Limits.{setWords, termWords, variables}
 use Rattle.algebra.specs.Polynomial.{members, Term, Poly}
 use Rattle.words.specs.Words.{number}
-use Rattle.terms.specs.Terms.{termOf, none, decode}
-use Rattle.terms.proofs.Decode.{decode-at, decode-length}
+use Rattle.terms.specs.Terms.{termOf, decode}
+use Rattle.terms.proofs.Decode.{decode-length, decode-read, decode-rest}
 use Rattle.paper.specs.Grammar.{Bytes, bytes}
 use Rattle.paper.specs.Spelling.{spellCoefficient, spellTerm, spell}
 use Rattle.paper.proofs.Numbers.{number-most}
@@ -27,20 +25,15 @@ use Rattle.writer.proofs.Pieces.{variables-most, members-few}
 abbrev pub runRest : ℕ → ℕ → List ℕ → ℕ → Bytes
 runRest k n s i = gather (spaced k) (drop i (decode n s))
 
-drop-decode : (n i : ℕ) (s t : List ℕ) → i < n → t ≡ part (i * termWords) termWords s → drop i (decode n s) ≡ termOf t ∷ drop (i + 1) (decode n s)
-drop-decode n i s t h e =
-    let l : i < length (decode n s) = rw (decode-length n s) h in
-    drop-cons (decode n s) i none l ∙ ap₂ _∷_ (decode-at n i s h ∙ ap termOf (sym e)) (ap (λ (j : ℕ). drop j (decode n s)) (sym (add-one i)))
-
 module _ (k n : ℕ) (s t : List ℕ) where
   pub run-first : 0 < n → t ≡ part 0 termWords s → spell k (decode n s) ≡ spellTerm k (termOf t) ++ runRest k n s 1
   unfolding spell
-  run-first h e = ap (spell k) (drop-decode n 0 s t h e)
+  run-first h e = ap (spell k) (decode-rest n 0 s t h e)
 
   module _ (i : ℕ) (h : i < n) (e : t ≡ part (i * termWords) termWords s) where
     pub run-more : runRest k n s i ≡ spaced k (termOf t) ++ runRest k n s (i + 1)
     unfolding gather
-    run-more = ap (gather (spaced k)) (drop-decode n i s t h e)
+    run-more = ap (gather (spaced k)) (decode-rest n i s t h e)
 
     pub run-length-more : length (runRest k n s i) ≡ 1 + length (spellTerm k (termOf t)) + length (runRest k n s (i + 1))
     run-length-more = ap length run-more ∙ omega (arith, length-append (spaced k (termOf t)) (runRest k n s (i + 1)))
@@ -48,7 +41,7 @@ module _ (k n : ℕ) (s t : List ℕ) where
     pub cut-at : Cut k (decode n s) → termOf t .coef < 2 ^ k
     cut-at f =
         let l : i < length (decode n s) = rw (decode-length n s) h in
-        subst (λ (u : Term). u .coef < 2 ^ k) (decode-at n i s h ∙ ap termOf (sym e)) (f .at i l)
+        subst (λ (u : Term). u .coef < 2 ^ k) (decode-read n i s t h e) (f .at i l)
 
 pub run-length-first : (k n : ℕ) (s t : List ℕ) → 0 < n → t ≡ part 0 termWords s
     → length (spell k (decode n s)) ≡ length (spellTerm k (termOf t)) + length (runRest k n s 1)
@@ -132,7 +125,7 @@ room-start n s = refl
 pub room-more : (n i : ℕ) (s t : List ℕ) (m : ℕ) → i < n → t ≡ part (i * termWords) termWords s → m ≡ length (members variables 0 (termOf t .set))
     → total termRoom (drop i (decode n s)) ≡ 22 + 4 * m + total termRoom (drop (i + 1) (decode n s))
 unfolding total
-room-more n i s t m h e c = ap (total termRoom) (drop-decode n i s t h e) ∙ omega arith
+room-more n i s t m h e c = ap (total termRoom) (decode-rest n i s t h e) ∙ omega arith
 
 pub room-end : (n i : ℕ) (s : List ℕ) → n ≤ i → total termRoom (drop i (decode n s)) ≡ 0
 unfolding total

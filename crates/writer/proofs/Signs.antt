@@ -9,10 +9,10 @@ use native.Mathlib.Omega.{arith}
 use lib.Pow.{pow-pos, pow-add, shl-exact}
 use borrow.Author.Tests.{le-leb, lt-leb}
 use Rattle.ground.proofs.Congruence.{Same, same-refl, same-eq, same-mod, same-cancel, same-lt, _⊳_}
+use Rattle.ground.proofs.Tests.{cond-yes, cond-no}
 use Rattle.words.proofs.Wrap.{same-cut}
 use Rattle.paper.specs.Grammar.{Bytes}
 use Rattle.paper.specs.Spelling.{spellNumber, spellCoefficient}
-use Rattle.paper.proofs.Ranges.{cond-yes, cond-no}
 use Rattle.writer.specs.Writing.{spellSigned}
 use Rattle.writer.specs.declared.sign.Signed.{Signed}
 

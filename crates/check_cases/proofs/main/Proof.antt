@@ -1,13 +1,8 @@
 -- `check_cases::main` is safe: the rooms have their lengths by a law, since a search would unfold them. No loop. Assumes nothing.
-use mathlib.Core.Path.{_≡_, sym}
-use Prim.Native.Nat.{ℕ}
-use lib.ListN.{length, replicate, length-replicate}
 use borrow.Author.Needs.{needs}
+use Rattle.ground.proofs.Lists.{zeros}
 use Rattle.check_cases.proofs.main.Statement.{statement}
 use Rattle.check_cases.proofs.main.Tie as tie
-
-zeros : (n : ℕ) → n ≡ length {A = ℕ} (replicate n 0)
-zeros n = sym (length-replicate n 0)
 
 slice-aggregate-read-full : tie.Need-slice-aggregate-read-full
 slice-aggregate-read-full c = zeros 65536

@@ -1,13 +1,8 @@
 -- `check_cost::main` is safe: text and rooms have their lengths by a law, since a search would unfold them. No loop. Assumes nothing.
-use mathlib.Core.Path.{_≡_, sym}
-use Prim.Native.Nat.{ℕ}
-use lib.ListN.{length, replicate, length-replicate}
+use Rattle.ground.proofs.Lists.{zeros}
 use Rattle.limits.specs.Limits.{textBytes, hostPool, hostScratch}
 use Rattle.check_cost.proofs.main.Statement.{statement}
 use Rattle.check_cost.proofs.main.Tie as tie
-
-zeros : (n : ℕ) → n ≡ length {A = ℕ} (replicate n 0)
-zeros n = sym (length-replicate n 0)
 
 slice-aggregate-check-input : tie.Need-slice-aggregate-check-input
 slice-aggregate-check-input c = zeros textBytes

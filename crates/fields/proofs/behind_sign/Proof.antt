@@ -3,7 +3,7 @@
 use mathlib.Core.Path.{sym}
 use Prim.Native.Nat.{_+_}
 use borrow.Author.Needs.{needs}
-use Rattle.paper.proofs.Ranges.{cond-yes, cond-no}
+use Rattle.ground.proofs.Tests.{cond-yes, cond-no}
 use Rattle.fields.proofs.behind_sign.Statement.{statement}
 use Rattle.fields.proofs.behind_sign.Tie as tie
 

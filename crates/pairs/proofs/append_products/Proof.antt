@@ -6,8 +6,8 @@ use native.Mathlib.Omega.{arith}
 use borrow.Author.Needs.{needs}
 use lib.ListN.{length, take}
 use lib.Seq.{length-take-le}
+use Rattle.ground.proofs.Numbers.{row-more, row-fits}
 use Rattle.regions.specs.Regions.{statedAt, factorAt}
-use Rattle.regions.proofs.Squares.{row-more, row-fits}
 use Rattle.pairs.proofs.Multiplying.{Rows, rows-start, rows-more}
 use Rattle.pairs.proofs.append_products.Statement.{statement}
 use Rattle.pairs.proofs.append_products.Tie as tie

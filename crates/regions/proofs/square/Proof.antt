@@ -3,8 +3,9 @@ use mathlib.Core.Path.{_≡_, subst}
 use Prim.Native.Nat.{ℕ, _+_, _-_, _*_, _≤_}
 use native.Mathlib.Omega.{arith}
 use borrow.Author.Needs.{needs}
+use Rattle.ground.proofs.Numbers.{row-fits}
 use Rattle.limits.specs.Limits.{lineProducts}
-use Rattle.regions.proofs.Squares.{side, row-fits, Rows, rows-start, rows-more}
+use Rattle.regions.proofs.Squares.{side, Rows, rows-start, rows-more}
 use Rattle.regions.proofs.square.Statement.{statement}
 use Rattle.regions.proofs.square.Tie as tie
 

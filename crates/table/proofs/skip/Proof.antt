@@ -5,7 +5,7 @@ use Prim.Native.Nat.{_≤_, _-_}
 use native.Mathlib.Omega.{arith}
 use borrow.Author.Count.{below-none}
 use borrow.Author.Needs.{needs}
-use Rattle.ground.proofs.Eight.{below-eight}
+use Rattle.words.proofs.Eight.{below-eight}
 use Rattle.table.specs.Steps.{Absent}
 use Rattle.table.proofs.skip.Statement.{statement}
 use Rattle.table.proofs.skip.Tie as tie

@@ -7,10 +7,11 @@ use native.Mathlib.Omega.{arith}
 use lib.ListN.{length}
 use borrow.Author.Needs.{needs}
 use Rattle.ground.specs.Lists.{every}
+use Rattle.ground.proofs.Lists.{every-none, every-more}
 use Rattle.paper.specs.Grammar.{pair}
 use Rattle.paper.proofs.Reading.{takes-pair, each-stop, each-end}
 use Rattle.reader.specs.Lines.{pairRanged, pairFew}
-use Rattle.reader.proofs.Scans.{scanned, pass-on, Passed, passed-none, passed-more, passed-stuck, passed-scans, every-none, every-more}
+use Rattle.reader.proofs.Scans.{scanned, pass-on, Passed, passed-none, passed-more, passed-stuck, passed-scans}
 use Rattle.reader.proofs.line.scan_pairs.Statement.{statement}
 use Rattle.reader.proofs.line.scan_pairs.Tie as tie
 

@@ -8,7 +8,8 @@ use lib.Dec.{eqb}
 use lib.ListN.{getD}
 use borrow.Author.Count.{below-more}
 use borrow.Author.Tests.{eqb-false}
 use Rattle.ground.proofs.Tests.{or-none-left, or-none-right}
+use Rattle.words.specs.Parts.{amongEight}
 
 -- P holds wherever s has not x
 module _ (P : ℕ → Type 0) (s : List ℕ) (x : ℕ) (other : (k : ℕ) → (getD s k 0 ≡ x → ⊥) → P k) where
@@ -20,8 +21,7 @@ module _ (P : ℕ → Type 0) (s : List ℕ) (x : ℕ) (other : (k : ℕ) → (g
       (other i (eqb-false (getD s i 0) x (or-none-right tests (eqb (getD s i 0) x) h))))
 
   pub below-eight : (i : ℕ) → ((k : ℕ) → k < i → P k)
-      → (eqb (getD s i 0) x || eqb (getD s (i + 1) 0) x || eqb (getD s (i + 2) 0) x || eqb (getD s (i + 3) 0) x || eqb (getD s (i + 4) 0) x
-      || eqb (getD s (i + 5) 0) x || eqb (getD s (i + 6) 0) x || eqb (getD s (i + 7) 0) x) ≡ false
+      → amongEight s i x ≡ false
       → (k : ℕ) → k < i + 8 → P k
   below-eight i below =
       more _ (i + 7) (i + 8) (omega arith)
