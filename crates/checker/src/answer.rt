@@ -19,7 +19,7 @@ pub struct Answer {
 }
 
 // Nothing was read.
-pub(crate) fn unread(why: u64) -> Answer
+pub fn unread(why: u64) -> Answer
     ensures { λ r. ⌜ answerOf r ≡ paper.unread why ⌝ }
 {
     Answer {

@@ -1,4 +1,7 @@
 // Reads a text from standard input, checks it, and writes the six numbers of the answer, parted by tabs.
+ghost use Prim.Native.Nat.{_<_};
+ghost use lib.ListN.{length};
+ghost use Rattle.limits.specs.Limits.{hostTextBytes};
 use checker::answer::Answer;
 use libc::STDIN_FILENO;
 use libc::STDOUT_FILENO;
@@ -19,27 +22,15 @@ fn say_answer(a: Answer) {
     say(a.terms, b"\n");
 }
 
-// The answer to a text that is too long to be read.
-fn too_long() -> Answer {
-    Answer {
-        verdict: limits::LONGTEXT,
-        line: 0,
-        index: 0,
-        products: 0,
-        polynomials: 0,
-        terms: 0,
-    }
+// Reads a text into a room that holds more than is taken, so that a longer text is known by its length, and says the answer.
+fn answer_input(text: &mut [u8])
+    requires { ⌜ hostTextBytes < length (now text) ⌝ }
+{
+    let n = io::read_full(STDIN_FILENO, text);
+    say_answer(lpac_host::host_answer(&text[..n]));
 }
 
 fn main() {
-    // one byte more than is taken, so that a longer text is known by its length
     let mut text = [0u8; limits::HOST_TEXT_BYTES + 1];
-    let n = io::read_full(STDIN_FILENO, &mut text);
-    if limits::HOST_TEXT_BYTES < n {
-        say_answer(too_long());
-        return;
-    }
-    let mut pool = [0u64; limits::HOST_POOL];
-    let mut scratch = [0u64; limits::HOST_SCRATCH];
-    say_answer(checker::check(&text[..n], &mut pool, &mut scratch));
+    answer_input(&mut text);
 }

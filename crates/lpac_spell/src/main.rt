@@ -1,8 +1,9 @@
 // Reads lines `k<tab>field` from standard input, and writes `verdict<tab>spelling` for each; nothing stands behind the tab where
 // the field is refused. A line of another shape is FORM, and an input above 65,536 bytes has the one answer LONGTEXT.
 ghost use mathlib.Core.Path.{_≡_};
-ghost use Prim.Native.Nat.{_≤_};
+ghost use Prim.Native.Nat.{_≤_, _<_};
 ghost use lib.ListN.{length};
+ghost use Rattle.limits.specs.Limits.{hostTextBytes};
 ghost use Rattle.lpac_spell.specs.Asks.{behindTab, AskedIs};
 use libc::STDIN_FILENO;
 use libc::STDOUT_FILENO;
@@ -75,9 +76,11 @@ fn answer_lines(text: &[u8], scratch: &mut [u64], out: &mut [u8]) {
     }
 }
 
-fn main() {
-    let mut text = [0u8; limits::HOST_TEXT_BYTES + 1];
-    let n = io::read_full(STDIN_FILENO, &mut text);
+// Reads a text into a room that holds more than is taken, so that a longer text is known by its length, and answers its lines.
+fn answer_input(text: &mut [u8])
+    requires { ⌜ hostTextBytes < length (now text) ⌝ }
+{
+    let n = io::read_full(STDIN_FILENO, text);
     if limits::HOST_TEXT_BYTES < n {
         say(limits::LONGTEXT, b"");
         return;
@@ -86,4 +89,9 @@ fn main() {
     // A spelling is longer than its field by a sign for each term at most, so that FULL does not come up.
     let mut out = [0u8; 2 * limits::LINE_BYTES];
     answer_lines(&text[..n], &mut scratch, &mut out);
+}
+
+fn main() {
+    let mut text = [0u8; limits::HOST_TEXT_BYTES + 1];
+    answer_input(&mut text);
 }
