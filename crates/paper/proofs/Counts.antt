@@ -10,11 +10,11 @@ use Rattle.ground.specs.Lists.{every, any, total}
 use Rattle.ground.proofs.Tests.{or-none-left, and-left}
 use Rattle.algebra.specs.Polynomial.{Poly, extension}
 use Rattle.paper.specs.Statement.{Statement, ring, input, goal, lin, del, ext, newIndex, namedIndices, reduced}
-use Rattle.paper.specs.Rules.{modulo, Store, stored, find, storedTerms, State, start, place, entries, productCount, after}
+use Rattle.paper.specs.Rules.{modulo, Store, stored, Distinct, find, storedTerms, State, start, place, entries, productCount, after}
 use Rattle.paper.specs.Answer.{ringIn, sumOver, named, productsIn, introducedPolynomials, deletedPolynomials, introducedTerms, deletedTerms}
 use Rattle.paper.proofs.Stands.{Stands, stands-none}
 use Rattle.paper.proofs.Steps.{withRing, by-ring, Steps, done, step, Opened, nothing, opening}
-use Rattle.paper.proofs.Store.{Distinct, find-new, terms-append, distinct-append, distinct-remove, find-remove, terms-remove}
+use Rattle.paper.proofs.Store.{find-new, terms-append, distinct-append, distinct-remove, find-remove, terms-remove}
 
 look : (b : Bool) (p q : Poly) → cond b p q ≡ cond (b || false) (cond b p []) q
 look true p q = refl

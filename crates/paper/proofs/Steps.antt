@@ -10,7 +10,7 @@ use borrow.Author.Tests.{eqb-true, eqb-false}
 use Rattle.ground.specs.Lists.{gather}
 use Rattle.ground.proofs.Tests.{by-cond}
 use Rattle.limits.specs.Limits.{lineBytes}
-use Rattle.limits.specs.Verdicts.{LONGLINE, FORM, NOGOAL, NOTREACHED}
+use Rattle.limits.specs.Verdicts.{ACCEPTED, LONGLINE, FORM, NOGOAL, NOTREACHED}
 use Rattle.paper.specs.Rules.{first, modulo, steps, storedTerms, State, start, place, rules, after}
 use Rattle.paper.specs.Grammar.{Line, Read, got, stuck, statement}
 use Rattle.paper.specs.Statement.{Statement, ring, input, goal, lin, del, ext}
@@ -86,28 +86,28 @@ module _ (capacity : ℕ) where
     all = λ e. absurd (omega arith);
   }
 
+  -- what is accepted has reached its goal
+  won : (s : State) → s .phase ≡ steps → s .reached ≡ true → Ran s (λ h. h) [] (report s ACCEPTED 0 0)
+  unfolding report
+  won s p r = record {
+    last = s;
+    sts = [];
+    went = done;
+    hear = λ h. refl;
+    products = refl;
+    polynomials = refl;
+    terms = refl;
+    phase = λ z. p;
+    reached = λ z. r;
+    all = λ z. refl;
+  }
+
   ended : (s : State) (n : ℕ) → Ran s (λ h. h) [] (ending s n)
-  unfolding ending report
+  unfolding ending
   ended s n =
-      by-cond Goal (eqb (s .phase) steps)
-      (λ e. by-cond Goal (s .reached)
-      (λ f. record {
-        last = s;
-        sts = [];
-        went = done;
-        hear = λ h. refl;
-        products = refl;
-        polynomials = refl;
-        terms = refl;
-        phase = λ z. eqb-true (s .phase) steps e;
-        reached = λ z. f;
-        all = λ z. refl;
-      })
-      (λ f. stopped s [] NOTREACHED n 0 (omega arith)))
+      by-cond (Ran s (λ h. h) []) _
+      (λ e. by-cond (Ran s (λ h. h) []) _ (λ f. won s (eqb-true (s .phase) steps e) f) (λ f. stopped s [] NOTREACHED n 0 (omega arith)))
       (λ e. stopped s [] NOGOAL n 0 (omega arith))
-    where
-      Goal : Answer → Type 0
-      Goal a = Ran s (λ h. h) [] a
 
   module _ (s : State) (n : ℕ) (ls : List Line) (rest : (s′ : State) → Ran s′ (λ h. acceptedFrom capacity s′ h ls) (gather (λ l. ifRead (statement l)) ls) (run capacity s′ n ls)) where
     onward : (r : Read Statement) (o : Outcome) → Judged s r o

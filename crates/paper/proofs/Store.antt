@@ -11,12 +11,7 @@ use borrow.Author.Tests.{eqb-true, eqb-false}
 use Rattle.ground.specs.Lists.{any, total}
 use Rattle.ground.proofs.Tests.{by-cond, or-none-left, or-none-right}
 use Rattle.algebra.specs.Polynomial.{Poly}
-use Rattle.paper.specs.Rules.{Entry, Store, stored, find, remove, storedTerms}
-
--- no index twice
-abbrev pub Distinct : Store → Type 0
-Distinct [] = Unit {0}
-Distinct (e ∷ s) = (stored s (e .index) ≡ false) × Distinct s
+use Rattle.paper.specs.Rules.{Entry, Store, stored, Distinct, find, remove, storedTerms}
 
 find-none : (s : Store) (i : ℕ) → stored s i ≡ false → find s i ≡ []
 unfolding stored find any

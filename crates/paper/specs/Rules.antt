@@ -1,5 +1,5 @@
 -- When a statement is refused, in the order of the verdicts, and what one that stands changes.
-use mathlib.Core.{Bool.Bool, Bool.cond, Bool.false, Bool._||_, Bool.not, List.List, List.[], List._∷_, List._++_, List.map}
+use mathlib.Core.{Path._≡_, Bool.Bool, Bool.cond, Bool.false, Bool._||_, Bool.not, List.List, List.[], List._∷_, List._++_, List.map}
 use Prim.Native.Nat.{ℕ, _+_, _*_, _^_}
 use lib.{Dec.eqb, Dec.leb, Dec.ltb, ListN.length, Bits.bitOr}
 use Rattle.limits.specs.Limits.{storedPolynomials, lineProducts}
@@ -38,6 +38,11 @@ entry i p = record { index = i; poly = p } ∷ []
 
 unfoldable pub stored : Store → ℕ → Bool
 stored s i = any (λ e. eqb i (e .index)) s
+
+-- no index twice
+abbrev pub Distinct : Store → Type 0
+Distinct [] = Unit {0}
+Distinct (e ∷ s) = (stored s (e .index) ≡ false) × Distinct s
 
 -- zero where the index is not stored
 unfoldable pub find : Store → ℕ → Poly

@@ -1,53 +1,14 @@
--- Samples 1 to 11 of the paper: every one comes out as it says, computed. One list, one proof; assumes nothing.
-use mathlib.Core.Path.{_≡_, refl}
-use mathlib.Core.List.{List, [], _∷_, map}
-use Prim.Native.Nat.{ℕ}
-use Prim.Native.String.{String}
-use Rattle.limits.specs.Limits.{hostPool, hostScratch, leastSpellingScratch, lineBytes}
-use Rattle.limits.specs.Verdicts.{ACCEPTED}
+-- The samples come out as the paper says, computed: one proof over one list. Assumes nothing.
+use mathlib.Core.Path.{refl}
 use Rattle.paper.specs.Grammar.{bytes, onFirst, lines, literal, end, upTo, isDigit, digits, decimal, sign, term, asWritten, polynomial, tab, number, field as readField, pair, kinds, beginsAlike, oneOf, statement}
-use Rattle.paper.specs.Answer.{Answer, answer, indexOf, judge, judgeLine, report, ending, run, capacityOf, unread}
-use Rattle.paper.specs.Spelling.{Spelled, spellField, spellDigits, spellNumber, spellCoefficient, spellTerm, spell, spellingRules, spellRead, wholeField}
+use Rattle.paper.specs.Answer.{answer, indexOf, judge, judgeLine, report, ending, run, capacityOf, unread}
+use Rattle.paper.specs.Spelling.{spellField, spellDigits, spellNumber, spellCoefficient, spellTerm, spell, spellingRules, spellRead, wholeField}
 use Rattle.algebra.specs.Polynomial.{bit, has, members, vars, equal, times, products, put, insert, reduce, product, extension, allVars}
 use Rattle.ground.specs.Lists.{every, any, total, gather}
 use Rattle.paper.specs.Rules.{first, stored, find, remove, storedTerms, start, place, entries, makesSeen, combination, productCount, overfull, rules, holdsGoal, after}
 use Rattle.paper.specs.Statement.{newIndex, namedIndices, fields, isRing, isIndex, isVariable, isTerm, inRange, numbersInRange, tooManyTerms, setOf, asTerm, reduced}
+use Rattle.promises.specs.Samples.{numbers, text, field, samples, AllAsSaid}
 
-pub record Sample : Type 0 where
-  pub found : List ℕ
-  pub said : List ℕ
-
-pub numbers : Answer → List ℕ
-numbers a = a .verdict ∷ a .line ∷ a .index ∷ a .products ∷ a .polynomials ∷ a .terms ∷ []
-
--- what the definitions give, and what the paper says
-pub text : String → List ℕ → Sample
-text s six = record { found = numbers (answer (bytes s) hostPool hostScratch); said = six }
-
-pub field : ℕ → String → String → Sample
-field k f s =
-    let r : Spelled = spellField (bytes f) k leastSpellingScratch lineBytes in
-    record { found = r .verdict ∷ r .spelling; said = ACCEPTED ∷ bytes s }
-
--- 1 to 4; 5 to 8, of which the sixth has two; 9 to 11, of which the ninth and the last have two
-pub samples : List Sample
-samples =
-    text "ring\t8\nin\t1\t-1.2 1.0.1\ngoal\t1.2 -1.0.2\nlin\t2\t1.2 -1.0.2\t1\t1.0 -1\n" (0 ∷ 0 ∷ 0 ∷ 4 ∷ 2 ∷ 4 ∷ [])
-    ∷ text "ring\t8\nin\t1\t-1.2 1.0.1\ngoal\t1.2 -1.0.2\n" (16 ∷ 3 ∷ 0 ∷ 0 ∷ 1 ∷ 2 ∷ [])
-    ∷ text "ring\t8\nin\t1\t-1.2 1.0.1\ngoal\t1.2 -1.0.2\nlin\t2\t1.2\t1\t1.0 -1\n" (12 ∷ 4 ∷ 2 ∷ 0 ∷ 1 ∷ 2 ∷ [])
-    ∷ text "" (15 ∷ 0 ∷ 0 ∷ 0 ∷ 0 ∷ 0 ∷ [])
-    ∷ field 8 "1.1.0 255.0.1" "0"
-    ∷ field 8 "128" "128"
-    ∷ field 8 "129" "-127"
-    ∷ field 1 "3.5.5" "1.5"
-    ∷ field 8 "1 1.0 1.1" "1.1 1.0 1"
-    ∷ text "ring\t1\ngoal\t1\next\t1\t2\t1.0 1.1\n" (16 ∷ 3 ∷ 0 ∷ 4 ∷ 1 ∷ 3 ∷ [])
-    ∷ text "ring\t2\ngoal\t1\next\t1\t2\t1.0 1.1\n" (13 ∷ 3 ∷ 1 ∷ 0 ∷ 0 ∷ 0 ∷ [])
-    ∷ text "ring\t8\ngoal\t1\next\t1\t2\t1.0 1.1 -2.0.1\n" (16 ∷ 3 ∷ 0 ∷ 9 ∷ 1 ∷ 4 ∷ [])
-    ∷ text "ring\t1\ngoal\t1\next\t1\t2\t2.0\n" (16 ∷ 3 ∷ 0 ∷ 0 ∷ 1 ∷ 1 ∷ [])
-    ∷ text "ring\t2\ngoal\t1\next\t1\t2\t2.0\n" (13 ∷ 3 ∷ 1 ∷ 0 ∷ 0 ∷ 0 ∷ [])
-    ∷ []
-
-pub all-as-said : map (λ s. s .found) samples ≡ map (λ s. s .said) samples
+pub all-as-said : AllAsSaid
 unfolding bit has members vars equal times products put insert reduce product extension allVars every any total gather first bytes onFirst lines literal end upTo newIndex namedIndices fields isDigit digits decimal sign term asWritten polynomial tab number readField pair kinds beginsAlike oneOf statement isRing isIndex isVariable isTerm inRange numbersInRange tooManyTerms setOf asTerm reduced stored find remove storedTerms start place entries makesSeen combination productCount overfull rules holdsGoal after indexOf judge judgeLine report ending run capacityOf unread answer spellDigits spellNumber spellCoefficient spellTerm spell spellingRules spellRead wholeField spellField numbers text field samples
 all-as-said = refl

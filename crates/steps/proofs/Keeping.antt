@@ -19,8 +19,8 @@ use Rattle.terms.proofs.Decode.{decode-length, decode-paste}
 use Rattle.paper.specs.Grammar.{Bytes}
 use Rattle.paper.specs.Statement.{Statement}
 use Rattle.paper.specs.Rules as paper
-use Rattle.paper.specs.Rules.{entry, Store, modulo, stored, first, rules, overfull, after}
-use Rattle.paper.proofs.Store.{Distinct, distinct-append}
+use Rattle.paper.specs.Rules.{entry, Store, modulo, stored, Distinct, first, rules, overfull, after}
+use Rattle.paper.proofs.Store.{distinct-append}
 use Rattle.table.specs.declared.Table.{Table}
 use Rattle.table.specs.Table.{storeOf, Fitting}
 use Rattle.table.proofs.Laws.{store-length, store-terms, store-kept}

@@ -11,11 +11,11 @@ use Rattle.limits.specs.Limits.{setWords}
 use Rattle.limits.specs.Verdicts.{ORDER, MISSING}
 use Rattle.words.specs.Words.{number}
 use Rattle.terms.specs.Terms.{decode}
-use Rattle.paper.specs.Rules.{first, Store, modulo, opening, inputs, steps, stored, remove, start, rules}
+use Rattle.paper.specs.Rules.{first, Store, modulo, opening, inputs, steps, stored, Distinct, remove, start, rules}
 use Rattle.paper.specs.Grammar.{Bytes}
 use Rattle.paper.specs.Statement.{Statement, ring, del}
 use Rattle.paper.specs.Rules as paper
-use Rattle.paper.proofs.Store.{Distinct, distinct-remove}
+use Rattle.paper.proofs.Store.{distinct-remove}
 use Rattle.fields.proofs.Taking.{same-value}
 use Rattle.table.specs.declared.Table.{Table}
 use Rattle.table.specs.Table.{storeOf}

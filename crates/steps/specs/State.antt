@@ -7,8 +7,7 @@ use Rattle.limits.specs.Limits.{fieldTerms, lineProducts, greatestRing, mostPoo
 use Rattle.words.specs.Words.{number}
 use Rattle.terms.specs.Terms.{decode}
 use Rattle.paper.specs.Rules as paper
-use Rattle.paper.specs.Rules.{modulo, start}
-use Rattle.paper.proofs.Store.{Distinct}
+use Rattle.paper.specs.Rules.{modulo, Distinct, start}
 use Rattle.table.specs.Table.{storeOf, Fitting}
 use Rattle.table.specs.Steps as table
 use Rattle.regions.specs.Regions.{goalAt}

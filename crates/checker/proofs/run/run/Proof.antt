@@ -37,6 +37,39 @@ part-judge-line-end c = let h = c .line-end .ensures .inside in omega arith
 judge-line-requires : tie.Need-judge-line-requires Inv-loop μ-loop
 judge-line-requires c κs = onward-room (c .before .before .before .before .before .loop .inv .0) (c .before .before .before .before .loop-test .taken) (c .before .before .before .before .before .before .before .before .before .before .pre .0)
 
+-- a line that stands
+add-state : tie.Need-add-state Inv-loop μ-loop
+add-state c =
+    let d = c .before .before .before .before .before .before .before in
+    let w = d .before .before .before .before in
+    let o = w .before .before .loop .inv in
+    let p = w .before .before .before .before .before .before .before .pre .0 in
+    let f = o .0 .few in
+    let n = d .judge-line .ensures .lines in
+    omega arith
+
+add-at : tie.Need-add-at Inv-loop μ-loop
+add-at c =
+    let w = c .before .before .before .before .before .before .before .before .before .before .before in
+    let p = w .before .before .before .before .before .before .before .pre .0 in
+    let i = w .line-end .ensures .inside in
+    omega arith
+
+loop-less : tie.Need-loop-less Inv-loop μ-loop
+loop-less c =
+    let w = c .before .before .before .before .before .before .before .before .before .before .before in
+    let h = w .line-end .ensures .onward in
+    omega arith
+
+loop-again : tie.Need-loop-again Inv-loop μ-loop
+loop-again c =
+    let d = c .before .before .before .before .before .before .before in
+    let w = d .before .before .before .before in
+    let o = w .before .before .loop .inv in
+    let z = c .before .if1 .left in
+    (onward-more (o .0) (w .before .loop-test .taken) (w .line-end .ensures) (d .judge-line .ensures) (omega arith), d .judge-line .ensures .pool-length ∙ o .1, d .judge-line .ensures .scratch-length ∙ o .2)
+
+-- a line that is refused
 sub-refused-index : tie.Need-sub-refused-index Inv-loop μ-loop
 sub-refused-index c = let h = c .before .before .before .before .before .before .before .before .before .before .line-end .ensures .onward in omega arith
 
@@ -83,36 +116,7 @@ returns c =
       scratch-length = d .judge-line .ensures .scratch-length ∙ o .2;
     }
 
-add-state : tie.Need-add-state Inv-loop μ-loop
-add-state c =
-    let d = c .before .before .before .before .before .before .before in
-    let w = d .before .before .before .before in
-    let o = w .before .before .loop .inv in
-    let p = w .before .before .before .before .before .before .before .pre .0 in
-    let f = o .0 .few in
-    let n = d .judge-line .ensures .lines in
-    omega arith
-
-add-at : tie.Need-add-at Inv-loop μ-loop
-add-at c =
-    let w = c .before .before .before .before .before .before .before .before .before .before .before in
-    let p = w .before .before .before .before .before .before .before .pre .0 in
-    let i = w .line-end .ensures .inside in
-    omega arith
-
-loop-less : tie.Need-loop-less Inv-loop μ-loop
-loop-less c =
-    let w = c .before .before .before .before .before .before .before .before .before .before .before in
-    let h = w .line-end .ensures .onward in
-    omega arith
-
-loop-again : tie.Need-loop-again Inv-loop μ-loop
-loop-again c =
-    let d = c .before .before .before .before .before .before .before in
-    let w = d .before .before .before .before in
-    let o = w .before .before .loop .inv in
-    (onward-more (o .0) (w .before .loop-test .taken) (w .line-end .ensures) (d .judge-line .ensures) (c .before .if1 .left), d .judge-line .ensures .pool-length ∙ o .1, d .judge-line .ensures .scratch-length ∙ o .2)
-
+-- behind the last line
 ending-requires : tie.Need-ending-requires Inv-loop μ-loop
 ending-requires c κs = c .before .loop .inv .0 .ready .fitting .packed
 
