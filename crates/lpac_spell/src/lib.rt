@@ -85,7 +85,7 @@ fn answer_text(text: &[u8]) -> bool {
         return say(limits::LONGTEXT, b"");
     }
     let mut scratch = [0u64; limits::LEAST_SPELLING_SCRATCH];
-    // A spelling is longer than its field by a sign for each term at most, so that FULL does not come up.
+    // A spelling takes less (`NeverFull` of the crate promises), so that FULL does not come up.
     let mut out = [0u8; 2 * limits::LINE_BYTES];
     answer_lines(text, &mut scratch, &mut out)
 }

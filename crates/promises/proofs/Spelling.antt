@@ -1,60 +1,99 @@
--- The promises of the spelling, each by the law behind it. Assumes nothing.
-use mathlib.Core.Path.{_≡_, refl, sym, ap, _∙_, subst}
+-- The numbers of a spelling are in range, what it means, and when two are one. Assumes nothing.
+use mathlib.Core.Path.{_≡_, refl, sym, ap, _∙_}
 use mathlib.Core.Bool.{true}
 use mathlib.Core.Logic.{_↔_}
-use mathlib.Core.List.{[], map}
-use Prim.Native.Nat.{ℕ, _^_, _<_}
-use Rattle.limits.specs.Limits.{variables}
-use Rattle.algebra.specs.Polynomial.{Poly, value, Reduced}
+use mathlib.Core.List.{List, [], _∷_, map}
+use Prim.Native.Nat.{ℕ, zero, suc, _+_, _-_, _/_, _%_, _^_, _≤_, _<_}
+use native.Mathlib.Nat.{pow-le-pow-right}
+use native.Mathlib.Omega.{arith}
+use lib.Dec.{eqb, leb, ltb}
+use lib.ListN.{length, length-map}
+use borrow.Author.Tests.{lt-ltb}
+use Rattle.ground.specs.Lists.{every}
+use Rattle.ground.proofs.Tests.{by-cond, and-both}
+use Rattle.limits.specs.Limits.{variables, greatestMagnitude}
+use Rattle.algebra.specs.Polynomial.{members, Term, Poly, value, put, insert, reduce, Reduced}
 use Rattle.algebra.proofs.Reduced.{reduced-reduce}
 use Rattle.algebra.proofs.OneForm.{one-form}
-use Rattle.paper.specs.Grammar.{Bytes, got}
-use Rattle.paper.specs.Statement.{Written, inRange, asTerm, reduced}
+use Rattle.paper.specs.Grammar.{got}
+use Rattle.paper.specs.Statement.{Written, within, isRing, isVariable, isTerm, inRange, asTerm, reduced}
 use Rattle.paper.specs.Spelling.{spell, wholeField}
+use Rattle.paper.proofs.Ranges.{ring-most}
 use Rattle.paper.proofs.ReadBack.{writtenTerm, spell-back}
 use Rattle.paper.proofs.SpelledMeaning.{field-below, meaning-back}
-use Rattle.promises.specs.Promises.{ReadBack, SpelledTwice, OneSpelling}
+use Rattle.reader.proofs.Numbers.{within-yes}
+use Rattle.promises.specs.Promises.{ReadBack}
+
+-- ---- the numbers of a spelling
+members-range : (n v m : ℕ) → v + n ≤ variables → every isVariable (members n v m) ≡ true
+unfolding members every isVariable
+members-range zero v m h = refl
+members-range (suc n) v m h =
+    let ih = members-range n (suc v) (m / 2) (omega arith) in
+    by-cond (λ (l : List ℕ). every isVariable l ≡ true) (eqb (m % 2) 1)
+    (λ _. and-both (isVariable v) (every isVariable (members n (suc v) (m / 2))) (lt-ltb v variables (omega arith)) ih) (λ _. ih)
+
+module _ (k : ℕ) where
+  magnitude-range : (t : Term) → isRing k ≡ true → 0 < t .coef → t .coef < 2 ^ k → within 1 greatestMagnitude (writtenTerm k t .magnitude) ≡ true
+  unfolding writtenTerm
+  magnitude-range t e h l =
+      let w : 2 ^ k ≤ 2 ^ 64 = pow-le-pow-right {n = 2} (omega arith) {i = k} {j = 64} (ring-most k e) in
+      by-cond (λ (m : ℕ). within 1 greatestMagnitude m ≡ true) (leb (t .coef) (2 ^ (k - 1)))
+      (λ _. within-yes 1 greatestMagnitude (t .coef) (omega arith) (omega arith)) (λ _. within-yes 1 greatestMagnitude (2 ^ k - t .coef) (omega arith) (omega arith))
+
+  spelled-range : (b : ℕ) (p : Poly) → isRing k ≡ true → Reduced k b p → inRange (map (writtenTerm k) p) ≡ true
+  unfolding inRange every isTerm writtenTerm
+  spelled-range b [] e r = refl
+  spelled-range b (t ∷ p) e r =
+      and-both (isTerm (writtenTerm k t)) (inRange (map (writtenTerm k) p))
+      (and-both (within 1 greatestMagnitude (writtenTerm k t .magnitude)) (every isVariable (members variables 0 (t .set)))
+      (magnitude-range t e (r .1) (r .2)) (members-range variables 0 (t .set) (omega arith)))
+      (spelled-range (t .set) p e (r .3))
 
 pub read-back : ReadBack
-read-back k p r = (map (writtenTerm k) p, spell-back k (2 ^ variables) p r, meaning-back k p r)
+read-back k p e r =
+    (map (writtenTerm k) p, spell-back k (2 ^ variables) p r, spelled-range k (2 ^ variables) p e r, length-map p (writtenTerm k), meaning-back k p r)
 
--- s is a whole field, and p is what it means at k
-record ReadsAs (k : ℕ) (s : Bytes) (p : Poly) : Type 0 where
-  field : Written
-  reads : wholeField s ≡ got field []
-  means : reduced k field ≡ p
+-- ---- its terms are no more than the field's
+module _ (k : ℕ) where
+  put-few : (m c : ℕ) (p : Poly) → length (put k m c p) ≤ suc (length p)
+  unfolding put
+  put-few m c p = by-cond (λ (q : Poly). length q ≤ suc (length p)) (eqb (c % 2 ^ k) 0) (λ _. omega arith) (λ _. omega arith)
 
-back : (k : ℕ) (p : Poly) → Reduced k (2 ^ variables) p → ReadsAs k (spell k p) p
-back k p r = let b = read-back k p r in record { field = b .0; reads = b .1; means = b .2 }
+  insert-few : (m c : ℕ) (p : Poly) → length (insert k m c p) ≤ suc (length p)
+  unfolding insert
+  insert-few m c [] = put-few m c []
+  insert-few m c (t ∷ p) =
+      by-cond (λ (q : Poly). length q ≤ suc (suc (length p))) (eqb m (t .set))
+      (λ _. omega (arith, put-few m (c + t .coef) p))
+      (λ _. by-cond (λ (q : Poly). length q ≤ suc (suc (length p))) (ltb (t .set) m) (λ _. put-few m c (t ∷ p)) (λ _. omega (arith, insert-few m c p)))
 
-reduced-field : (k : ℕ) (f : Written) → inRange f ≡ true → Reduced k (2 ^ variables) (reduced k f)
-unfolding reduced
-reduced-field k f e = reduced-reduce k (2 ^ variables) (map (asTerm k) f) (field-below k f e)
+  pub reduced-few : (f : Written) → length (reduced k f) ≤ length f
+  unfolding reduced reduce
+  reduced-few [] = omega arith
+  reduced-few (t ∷ f) = omega (arith, insert-few (asTerm k t .set) (asTerm k t .coef) (reduce k (map (asTerm k) f)), reduced-few f)
 
--- what one text reads as is one polynomial
-one-reading : {k : ℕ} {s : Bytes} {p q : Poly} → ReadsAs k s p → ReadsAs k s q → p ≡ q
-one-reading {k} {s} {p} {q} x y =
-    let a : wholeField s ≡ got (x .field) [] = x .reads in
-    let b : wholeField s ≡ got (y .field) [] = y .reads in
-    let e : x .field ≡ y .field = cc in
-    sym (x .means) ∙ ap (reduced k) e ∙ y .means
+  -- ---- what it means
+  pub reduced-field : (f : Written) → inRange f ≡ true → Reduced k (2 ^ variables) (reduced k f)
+  unfolding reduced
+  reduced-field f e = reduced-reduce k (2 ^ variables) (map (asTerm k) f) (field-below k f e)
 
-pub spelled-twice : SpelledTwice
-spelled-twice k f g e r =
-    ap (spell k)
-    (one-reading (record { field = g; reads = r; means = refl }) (back k (reduced k f) (reduced-field k f e)))
+  one-meaning : (f g : Written) → inRange f ≡ true → inRange g ≡ true
+      → (reduced k f ≡ reduced k g) ↔ ((m : ℕ) → m < 2 ^ variables → value k m (map (asTerm k) f) ≡ value k m (map (asTerm k) g))
+  unfolding reduced
+  one-meaning f g ef eg = one-form k (map (asTerm k) f) (map (asTerm k) g) (2 ^ variables) (field-below k f ef) (field-below k g eg)
 
--- an equal text reads alike
-again : {k : ℕ} {s t : Bytes} {p : Poly} → s ≡ t → ReadsAs k t p → ReadsAs k s p
-again {k} {s} {t} {p} e x = subst (λ (u : Bytes). ReadsAs k u p) (sym e) x
+  -- a polynomial is all that its spelling reads as
+  one-reading : (p q : Poly) → Reduced k (2 ^ variables) p → Reduced k (2 ^ variables) q → spell k p ≡ spell k q → p ≡ q
+  one-reading p q r s e =
+      let a : wholeField (spell k p) ≡ got (map (writtenTerm k) p) [] = spell-back k (2 ^ variables) p r in
+      let b : wholeField (spell k q) ≡ got (map (writtenTerm k) q) [] = spell-back k (2 ^ variables) q s in
+      let w : map (writtenTerm k) p ≡ map (writtenTerm k) q = (let c : got (map (writtenTerm k) p) [] ≡ got (map (writtenTerm k) q) [] = sym a ∙ ap wholeField e ∙ b in cc) in
+      sym (meaning-back k p r) ∙ ap (reduced k) w ∙ meaning-back k q s
 
-one-meaning : (k : ℕ) (f g : Written) → inRange f ≡ true → inRange g ≡ true
-    → (reduced k f ≡ reduced k g) ↔ ((a : ℕ) → a < 2 ^ variables → value k a (map (asTerm k) f) ≡ value k a (map (asTerm k) g))
-unfolding reduced
-one-meaning k f g ef eg = one-form k (map (asTerm k) f) (map (asTerm k) g) (2 ^ variables) (field-below k f ef) (field-below k g eg)
-
-pub one-spelling : OneSpelling
-one-spelling k f g ef eg = (
-  λ e. one-meaning k f g ef eg .0 (one-reading (back k (reduced k f) (reduced-field k f ef)) (again e (back k (reduced k g) (reduced-field k g eg)))),
-  λ h. ap (spell k) (one-meaning k f g ef eg .1 h),
-)
+  pub one-spelling : (f g : Written) → inRange f ≡ true → inRange g ≡ true
+      → (spell k (reduced k f) ≡ spell k (reduced k g)) ↔ ((m : ℕ) → m < 2 ^ variables → value k m (map (asTerm k) f) ≡ value k m (map (asTerm k) g))
+  one-spelling f g ef eg = (
+    λ e. one-meaning f g ef eg .0 (one-reading (reduced k f) (reduced k g) (reduced-field f ef) (reduced-field g eg) e),
+    λ h. ap (spell k) (one-meaning f g ef eg .1 h),
+  )

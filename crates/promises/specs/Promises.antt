@@ -1,16 +1,19 @@
 -- What is promised, one type a promise. Each is proved in proofs/.
 use mathlib.Core.{Path._≡_, Bool.true, Logic._⊎_, Logic._↔_, List.List, List.[], List._++_, List.map}
-use Prim.Native.Nat.{ℕ, _+_, _*_, _/_, _%_, _^_, _<_}
-use Rattle.limits.specs.Limits.{variables}
-use Rattle.limits.specs.Verdicts.{ACCEPTED, SHORT, LONGTEXT}
+use Prim.Native.Nat.{ℕ, _+_, _*_, _/_, _%_, _^_, _≤_, _<_}
+use lib.ListN.{length, take}
+use Rattle.limits.specs.Limits.{variables, lineBytes, fieldTerms, leastSpellingScratch}
+use Rattle.limits.specs.Verdicts.{ACCEPTED, SHORT, LONGTEXT, FULL}
 use Rattle.algebra.specs.Polynomial.{DifferOnlyAt, Apart, Poly, value, vars, coefOf, reduce, product, Below, Reduced, AllZero, Forced, Derived}
-use Rattle.paper.specs.Statement.{Written, Statement, inRange, asTerm, reduced}
+use Rattle.paper.specs.Statement.{Written, Statement, isRing, inRange, asTerm, reduced}
 use Rattle.paper.specs.Grammar.{Bytes, got}
 use Rattle.paper.specs.Answer.{Answer, answer, statements, ringIn, definedIn, inputsIn, goalIn, introducedIn, accepted, productsIn, introducedPolynomials, deletedPolynomials, introducedTerms, deletedTerms}
 use Rattle.paper.specs.Spelling.{spell, wholeField}
 use Rattle.checker.specs.declared.answer.Answer as code
 use Rattle.checker.specs.Checked.{Checked}
 use Rattle.lpac_host.specs.Hosted.{hostAnswer, lineWeight, Hosted}
+use Rattle.speller.specs.declared.Spelled as speller
+use Rattle.speller.specs.Spells.{Spells}
 
 -- ---- algebra: a reduced sum or product has the sum or product of the values
 abbrev pub SumOfValues : Type 0
@@ -73,15 +76,49 @@ HostTells = (text : Bytes) (r : ℕ) → Hosted text r → (r % lineWeight ≡ h
 abbrev pub HostedIsSound : Type 0
 HostedIsSound = (text : Bytes) (r : ℕ) → Hosted text r → r ≡ ACCEPTED → Sound (statements text) (ringIn (statements text))
 
--- ---- spelling: reading it as a whole field gives back the polynomial that it came from
+-- ---- spelling: read as a whole field it gives as many terms, with every number in range, and they mean the polynomial that it came from
 abbrev pub ReadBack : Type 0
-ReadBack = (k : ℕ) (p : Poly) → Reduced k (2 ^ variables) p → (f : Written) × (wholeField (spell k p) ≡ got f []) × (reduced k f ≡ p)
+ReadBack = (k : ℕ) (p : Poly) → isRing k ≡ true → Reduced k (2 ^ variables) p
+    → (f : Written) × (wholeField (spell k p) ≡ got f []) × (inRange f ≡ true) × (length f ≡ length p) × (reduced k f ≡ p)
 
--- the spelling of a field, read and spelled again, is the same
-abbrev pub SpelledTwice : Type 0
-SpelledTwice = (k : ℕ) (f g : Written) → inRange f ≡ true → wholeField (spell k (reduced k f)) ≡ got g [] → spell k (reduced k g) ≡ spell k (reduced k f)
+-- ---- the code: a call of `spell` that accepted the field at k and wrote s, by the contract `Spells`
+pub record Writes (field : Bytes) (k : ℕ) (s : Bytes) : Type 0 where
+  pub scratch : List ℕ
+  pub out : Bytes
+  pub result : speller.Spelled
+  pub scratch′ : List ℕ
+  pub out′ : Bytes
+  pub call : Spells field k scratch out result scratch′ out′
+  pub accepts : result .verdict ≡ ACCEPTED
+  pub bytes : s ≡ take (result .written) out′
 
--- two fields have one spelling exactly when they agree at every 0/1 assignment
-abbrev pub OneSpelling : Type 0
-OneSpelling = (k : ℕ) (f g : Written) → inRange f ≡ true → inRange g ≡ true
-    → (spell k (reduced k f) ≡ spell k (reduced k g)) ↔ ((a : ℕ) → a < 2 ^ variables → value k a (map (asTerm k) f) ≡ value k a (map (asTerm k) g))
+-- s is a whole field that neither NUMBER nor TERMS refuses, and f is what it says
+pub record Says (s : Bytes) (f : Written) : Type 0 where
+  pub reads : wholeField s ≡ got f []
+  pub range : inRange f ≡ true
+  pub few : length f ≤ fieldTerms
+
+-- what it wrote reads as a field of the same meaning
+abbrev pub SpelledReadsBack : Type 0
+SpelledReadsBack = (field : Bytes) (k : ℕ) (s : Bytes) → Writes field k s → (f : Written) × (g : Written) × Says field f × Says s g × (reduced k g ≡ reduced k f)
+
+-- a spelling that is no longer than a line, given back to it at the same k with room for it, is accepted and written as it is
+abbrev pub SpelledAgain : Type 0
+SpelledAgain = (field : Bytes) (k : ℕ) (s : Bytes) → Writes field k s → length s ≤ lineBytes
+    → (scratch : List ℕ) (out : Bytes) (r : speller.Spelled) (scratch′ : List ℕ) (out′ : Bytes) → leastSpellingScratch ≤ length scratch → length s ≤ length out
+    → Spells s k scratch out r scratch′ out′ → (r .verdict ≡ ACCEPTED) × (take (r .written) out′ ≡ s)
+
+-- two fields that say f and g are written alike exactly when they agree at every 0/1 assignment
+abbrev pub SpelledAlike : Type 0
+SpelledAlike = (k : ℕ) (a b s t : Bytes) (f g : Written) → Writes a k s → Writes b k t → wholeField a ≡ got f [] → wholeField b ≡ got g []
+    → (s ≡ t) ↔ ((m : ℕ) → m < 2 ^ variables → value k m (map (asTerm k) f) ≡ value k m (map (asTerm k) g))
+
+-- a spelling is longer than its field by one byte for each written term at the most, and so has at most 8,288 bytes
+abbrev pub SpelledLength : Type 0
+SpelledLength = (field : Bytes) (k : ℕ) (s : Bytes) (f : Written) → Writes field k s → wholeField field ≡ got f []
+    → (length s ≤ length field + length f) × (length s ≤ lineBytes + fieldTerms)
+
+-- with an output of as many bytes it never answers FULL
+abbrev pub NeverFull : Type 0
+NeverFull = (field : Bytes) (k : ℕ) (scratch : List ℕ) (out : Bytes) (r : speller.Spelled) (scratch′ : List ℕ) (out′ : Bytes) → Spells field k scratch out r scratch′ out′
+    → lineBytes + fieldTerms ≤ length out → r .verdict ≡ FULL → ⊥

@@ -47,16 +47,16 @@ whole-some s (b ∷ t) p e h = ap (λ (r : Read Written). next r (λ p s. next (
 
 -- ---- the rules
 module _ (k room : ℕ) (p : Written) where
-  request-number : (isRing k && inRange p) ≡ false → spellRead k room (got p []) ≡ refuse NUMBER
+  pub request-number : (isRing k && inRange p) ≡ false → spellRead k room (got p []) ≡ refuse NUMBER
   unfolding spellRead spellingRules first
   request-number e = rw e
 
   module _ (e : (isRing k && inRange p) ≡ true) where
-    request-terms : tooManyTerms p ≡ true → spellRead k room (got p []) ≡ refuse TERMS
+    pub request-terms : tooManyTerms p ≡ true → spellRead k room (got p []) ≡ refuse TERMS
     unfolding spellRead spellingRules first
     request-terms f = rw (e, f)
 
-    request-fitted : tooManyTerms p ≡ false → spellRead k room (got p []) ≡ fitted (spell k (reduced k p)) room
+    pub request-fitted : tooManyTerms p ≡ false → spellRead k room (got p []) ≡ fitted (spell k (reduced k p)) room
     unfolding spellRead spellingRules first fitted
     request-fitted f = rw (e, f) (go (ltb room (length (spell k (reduced k p)))))
       where
