@@ -1,7 +1,7 @@
 #!/usr/bin/env bash
 # Instructions per byte of text, by callgrind, less those for the empty text: the proved checker, the independent one,
 # and a loop that only looks at each byte once; per product on lines of more and more products; then times, in turns in one run.
-# Needs valgrind, target/bin (`rt check check_cost lpac_check`) and target/staticlib (`rt staticlib lpac_host`).
+# Needs valgrind, `rt staticlib lpac_host` and `rt staticlib lpac_rooms`.
 set -euo pipefail
 cd "$(dirname "$0")/.."
 (cd rust && cargo build --release --offline --quiet)
@@ -16,14 +16,14 @@ instructions() { # TEXT COMMAND...
     valgrind --tool=callgrind --callgrind-out-file="$folder/out" "$@" <"$folder/$text" 2>&1 >/dev/null | sed -n 's/.*Collected : //p'
 }
 
-proved=$(instructions empty target/bin/check_cost)
+proved=$(instructions empty "$bench" proved)
 independent=$(instructions empty "$bench" independent)
 floor=$(instructions empty "$bench" floor)
 printf '| text | bytes | lines | proved | independent | floor | proved to independent |\n|---|---|---|---|---|---|---|\n'
 for name in $("$bench" names); do
     "$bench" text "$name" >"$folder/$name"
     bytes=$(wc -c <"$folder/$name")
-    p=$((($(instructions "$name" target/bin/check_cost) - proved) / bytes))
+    p=$((($(instructions "$name" "$bench" proved) - proved) / bytes))
     i=$((($(instructions "$name" "$bench" independent) - independent) / bytes))
     f=$((($(instructions "$name" "$bench" floor) - floor) / bytes))
     printf '| %s | %d | %d | %d | %d | %d | %d.%02d |\n' "$name" "$bytes" "$(wc -l <"$folder/$name")" $p $i $f $((p / i)) $((p * 100 / i % 100))
@@ -31,8 +31,8 @@ done
 
 printf '\n| products a line | instructions a product |\n|---|---|\n'
 for n in 64 256 1024; do
-    all=$(target/bin/lpac_check <"$folder/products-$n" | cut -f 4)
-    printf '| %d | %d |\n' "$n" $((($(instructions "products-$n" target/bin/check_cost) - proved) / all))
+    all=$("$bench" proved <"$folder/products-$n" | cut -f 4)
+    printf '| %d | %d |\n' "$n" $((($(instructions "products-$n" "$bench" proved) - proved) / all))
 done
 
 printf '\n'

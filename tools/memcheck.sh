@@ -1,6 +1,6 @@
 #!/usr/bin/env bash
 # Runs the check program and the C example under valgrind's memcheck on accepted and refused texts, and prints the errors of each.
-# Needs `rt check lpac_check`, `rt staticlib lpac_host`, gcc and valgrind.
+# Needs `tools/programs.sh`, `rt staticlib lpac_host`, `rt staticlib lpac_rooms`, gcc and valgrind.
 set -euo pipefail
 cd "$(dirname "$0")/.."
 folder=$(mktemp -d)

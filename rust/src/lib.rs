@@ -1,12 +1,13 @@
-//! Around the proved checker: its host call as a function, an independent checker written from the rule paper alone,
+//! Around the proved checker: its calls as functions, an independent checker written from the rule paper alone,
 //! and makers of texts for both.
 
-pub mod cases;
 pub mod host;
 pub mod independent;
 pub mod multiplier;
 pub mod polynomial;
 pub mod proofs;
 pub mod random;
+#[cfg(feature = "rooms")]
+pub mod rooms;
 pub mod texts;
 pub mod worst;

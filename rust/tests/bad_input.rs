@@ -2,10 +2,8 @@
 
 mod common;
 
-use common::{run_check_program, run_lpac};
+use common::{run_check_program, run_lpac, SAMPLE};
 use std::path::{Path, PathBuf};
-
-const SAMPLE: &[u8] = include_bytes!("../../examples/sample.lpac");
 
 /// The command and the check program on standard input: the words of one, the numbers of the other.
 fn both(input: &[u8], status: i32, words: &str, numbers: &str) {

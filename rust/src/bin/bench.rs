@@ -1,11 +1,12 @@
 //! What checking costs.
 //!
 //! `bench` times the host call, the independent checker and a loop that only looks at each byte, in turns in one run.
-//! `bench names` and `bench text NAME` write the texts; `bench independent` and `bench floor` take one from standard
-//! input, for a tool that counts instructions.
+//! `bench names` and `bench text NAME` write the texts. For a tool that counts instructions, `bench proved`, `bench independent` and
+//! `bench floor` take one from standard input, and `bench reduce N ORDER` reduces a run of N terms.
 
 use lofashunge::host;
-use lofashunge::independent::{self, POOL, SCRATCH};
+use lofashunge::independent::{self, Answer, POOL, SCRATCH};
+use lofashunge::rooms::{self, TERM_WORDS};
 use lofashunge::worst::{self, Measured};
 use std::hint::black_box;
 use std::io::{Read, Write};
@@ -20,6 +21,11 @@ fn floor(text: &[u8]) -> u64 {
         }
     }
     lines
+}
+
+/// The proved checker, in rooms as the host call has them.
+fn proved(text: &[u8]) -> Answer {
+    rooms::answer(text, &mut vec![0; POOL], &mut vec![0; SCRATCH])
 }
 
 /// The independent checker, with rooms cleared as the proved one clears its own.
@@ -54,6 +60,31 @@ fn table() {
     worst::all().iter().filter(|m| m.text.len() <= host::TEXT_BYTES).for_each(row);
 }
 
+/// The lowest word of the set of the i-th term of n.
+fn key(order: &str) -> fn(n: u64, i: u64) -> u64 {
+    match order {
+        "random" => |_, i| i.wrapping_mul(0x9e37_79b9_7f4a_7c15),
+        "sorted" => |n, i| n - i,
+        "reversed" => |_, i| i,
+        "equal" => |_, _| 1,
+        _ => panic!("an order is random, sorted, reversed or equal"),
+    }
+}
+
+/// Reduces n terms of coefficient 1, whose sets differ in their lowest words alone, and gives how many are left.
+/// The room is the same for every n up to 1,024, so that to zero it is a cost of the empty run too.
+fn reduced(n: usize, order: &str) -> usize {
+    let key = key(order);
+    let mut room = vec![0; 1_024 * TERM_WORDS];
+    let run = &mut room[..n * TERM_WORDS];
+    for (i, term) in run.chunks_exact_mut(TERM_WORDS).enumerate() {
+        term[0] = key(n as u64, i as u64);
+        term[TERM_WORDS - 1] = 1;
+    }
+    rooms::reduce(run)
+}
+
+/// The whole of standard input, however long it is: the checker itself finds a text too long.
 fn text_from_input() -> Vec<u8> {
     let mut text = Vec::new();
     std::io::stdin().read_to_end(&mut text).expect("standard input can be read");
@@ -71,8 +102,10 @@ fn main() {
             let m = all.iter().find(|m| m.name == name).expect("a name that `bench names` writes");
             std::io::stdout().write_all(&m.text).expect("standard output can be written");
         }
+        ["proved"] => println!("{}", proved(&text_from_input())),
         ["independent"] => println!("{}", independently(&text_from_input(), &mut vec![0; POOL + SCRATCH])),
         ["floor"] => println!("{}", floor(&text_from_input())),
-        _ => panic!("usage: bench [names | text NAME | independent | floor]"),
+        ["reduce", n, order] => println!("{}", reduced(n.parse().expect("a count of terms"), order)),
+        _ => panic!("usage: bench [names | text NAME | proved | independent | floor | reduce N ORDER]"),
     }
 }

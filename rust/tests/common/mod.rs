@@ -5,6 +5,8 @@ use std::io::Write;
 use std::path::PathBuf;
 use std::process::{Command, Output, Stdio};
 
+pub const SAMPLE: &[u8] = include_bytes!("../../../examples/sample.lpac");
+
 /// A path from the root of the repository.
 pub fn at_root(path: &str) -> PathBuf {
     PathBuf::from(env!("CARGO_MANIFEST_DIR")).join("..").join(path)
@@ -25,7 +27,34 @@ pub fn run_lpac(arguments: &[&str], input: &[u8]) -> Output {
     run(Command::new(env!("CARGO_BIN_EXE_lpac")).current_dir(at_root("")).args(arguments), input)
 }
 
+/// A program that `tools/programs.sh` made.
+pub fn program(name: &str) -> Command {
+    Command::new(at_root("target/bin").join(name))
+}
+
 /// What the check program gives for an input.
 pub fn run_check_program(input: &[u8]) -> Output {
-    run(&mut Command::new(at_root("target/bin/lpac_check")), input)
+    run(&mut program("lpac_check"), input)
+}
+
+/// A text of so many bytes that is accepted: the sample, and behind it lines that store zero, which are as long as one likes.
+pub fn accepted_text(bytes: usize) -> Vec<u8> {
+    let mut text = SAMPLE.to_vec();
+    for index in 3.. {
+        let rest = bytes - text.len();
+        if rest == 0 {
+            break;
+        }
+        text.extend(zero_line(index, if rest < 8_000 { rest } else { 4_000 }));
+    }
+    text
+}
+
+/// A lin line of so many bytes, whose factor is zero modulo 2^8 and repeats its variable.
+fn zero_line(index: usize, bytes: usize) -> Vec<u8> {
+    let mut line = format!("lin\t{index}\t0\t1\t256");
+    while line.len() + 1 < bytes {
+        line += if bytes - line.len() == 4 { ".11" } else { ".1" };
+    }
+    (line + "\n").into_bytes()
 }

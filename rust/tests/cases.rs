@@ -1,34 +1,28 @@
-//! Texts with known answers: the paper's samples, every verdict, and every limit on both sides.
+//! Texts with known answers: the paper's samples, every verdict, and every limit on both sides. Each is checked by the proved code
+//! in rooms filled with a mark; its six numbers must be the independent checker's, and the rooms left as the paper says.
 
-use crate::independent::{check, Answer, LONGTEXT, POOL, SCRATCH, SHORT};
+use lofashunge::independent::{check, LONGTEXT, POOL, SCRATCH, SHORT};
+use lofashunge::rooms;
+use std::collections::HashSet;
 
-/// A text in pieces, each repeated, with the words of pool and scratch lent to it.
-pub struct Case {
-    pub pool: usize,
-    pub scratch: usize,
-    pub pieces: Vec<(usize, Vec<u8>)>,
-}
-
-impl Case {
-    pub fn text(&self) -> Vec<u8> {
-        self.pieces.iter().flat_map(|(n, piece)| piece.repeat(*n)).collect()
-    }
-
-    pub fn answer(&self) -> Answer {
-        check(&self.text(), self.pool, self.scratch)
-    }
+/// A text, with the words of pool and scratch lent to it.
+struct Case {
+    pool: usize,
+    scratch: usize,
+    text: Vec<u8>,
 }
 
 fn case(text: &str) -> Case {
-    Case { pool: POOL, scratch: SCRATCH, pieces: vec![(1, text.as_bytes().to_vec())] }
+    in_room(POOL, SCRATCH, text)
 }
 
 fn in_room(pool: usize, scratch: usize, text: &str) -> Case {
-    Case { pool, scratch, ..case(text) }
+    Case { pool, scratch, text: text.as_bytes().to_vec() }
 }
 
+/// A text of pieces, each repeated.
 fn pieces(list: &[(usize, &str)]) -> Case {
-    Case { pieces: list.iter().map(|(n, s)| (*n, s.as_bytes().to_vec())).collect(), ..case("") }
+    case(&list.iter().map(|(n, piece)| piece.repeat(*n)).collect::<String>())
 }
 
 const SAMPLE: &str = include_str!("../../examples/sample.lpac");
@@ -200,7 +194,7 @@ fn ends() -> Vec<Case> {
 }
 
 /// The room of the pool: FULL, exact fits, and room that del frees.
-fn rooms() -> Vec<Case> {
+fn capacities() -> Vec<Case> {
     let full = |pool: usize, lines: &str| in_room(pool, SCRATCH, &format!("ring\t8\n{lines}"));
     let wide = |i: usize| format!("in\t{i}\t{}\n", terms(96));
     vec![
@@ -218,54 +212,47 @@ fn rooms() -> Vec<Case> {
     ]
 }
 
-pub fn all() -> Vec<Case> {
-    [samples, lengths, shapes, limits, places, products, ends, rooms].iter().flat_map(|cases| cases()).collect()
+fn all() -> Vec<Case> {
+    [samples, lengths, shapes, limits, places, products, ends, capacities].iter().flat_map(|cases| cases()).collect()
 }
 
-/// The cases as the program `check_cases` reads them.
-pub fn input() -> Vec<u8> {
-    let mut out = Vec::new();
-    for case in all() {
-        out.extend(format!("{} {} {}\n", case.pool, case.scratch, case.pieces.len()).bytes());
-        for (count, piece) in &case.pieces {
-            out.extend(format!("{} {}\n", count, piece.len()).bytes());
-            out.extend(piece);
-        }
-    }
-    out
+/// What every word of the rooms is before a check.
+const MARK: u64 = 7;
+
+/// A room of the mark, with one word behind it that is not lent.
+fn marked(words: usize) -> Vec<u64> {
+    vec![MARK; words + 1]
 }
 
-/// What `check_cases` must print for them.
-pub fn output() -> Vec<u8> {
-    let mut out = Vec::new();
-    for case in all() {
-        let a = case.answer();
-        let rooms = if [SHORT, LONGTEXT].contains(&a.verdict) { "untouched" } else { "zero" };
-        out.extend(format!("{a}\t{rooms}\t{rooms}\n").bytes());
+/// The room as the paper wants it after a verdict: untouched, or zero throughout; and the word behind it as it was.
+fn left(words: usize, verdict: u64) -> Vec<u64> {
+    let mut room = marked(words);
+    if ![SHORT, LONGTEXT].contains(&verdict) {
+        room[..words].fill(0);
     }
-    out
+    room
 }
 
-#[cfg(test)]
-mod tests {
-    use super::*;
-    use std::collections::HashSet;
-
-    #[test]
-    fn the_program_is_run_on_these_cases() {
-        let crate_dir = concat!(env!("CARGO_MANIFEST_DIR"), "/../crates/check_cases");
-        assert_eq!(std::fs::read(format!("{crate_dir}/stdin")).unwrap(), input());
-        assert_eq!(std::fs::read(format!("{crate_dir}/stdout")).unwrap(), output());
+#[test]
+fn each_case_has_the_independent_answer_and_leaves_its_rooms_as_the_paper_says() {
+    for Case { pool, scratch, text } in all() {
+        let expected = check(&text, pool, scratch);
+        let (mut first, mut second) = (marked(pool), marked(scratch));
+        let said = rooms::answer(&text, &mut first[..pool], &mut second[..scratch]);
+        let start = text[..text.len().min(200)].escape_ascii();
+        assert_eq!(said, expected, "{start}");
+        assert!(first == left(pool, said.verdict), "the pool after {start}");
+        assert!(second == left(scratch, said.verdict), "the scratch after {start}");
     }
+}
 
-    #[test]
-    fn every_verdict_is_given_to_two_texts() {
-        let mut texts = vec![HashSet::new(); 17];
-        for case in all() {
-            texts[case.answer().verdict as usize].insert(case.text());
-        }
-        for (verdict, texts) in texts.iter().enumerate() {
-            assert!(texts.len() >= 2, "{verdict}");
-        }
+#[test]
+fn every_verdict_is_given_to_two_texts() {
+    let mut texts = vec![HashSet::new(); 17];
+    for Case { pool, scratch, text } in all() {
+        texts[check(&text, pool, scratch).verdict as usize].insert(text);
+    }
+    for (verdict, texts) in texts.iter().enumerate() {
+        assert!(texts.len() >= 2, "{verdict}");
     }
 }
