@@ -25,7 +25,7 @@ fn floor(text: &[u8]) -> u64 {
 
 /// The proved checker, in rooms as the host call has them.
 fn proved(text: &[u8]) -> Answer {
-    rooms::answer(text, &mut vec![0; POOL], &mut vec![0; SCRATCH])
+    rooms::answer(text, &mut [0; POOL], &mut [0; SCRATCH])
 }
 
 /// The independent checker, with rooms cleared as the proved one clears its own.
