@@ -124,6 +124,9 @@ fn an_answer_that_cannot_be_written_is_a_failure() {
         let input = File::open(at_root(&format!("rust/tests/data/{name}.stdin"))).unwrap();
         let full = OpenOptions::new().write(true).open("/dev/full").unwrap();
         let said = program(name).stdin(input).stdout(full).stderr(Stdio::piped()).spawn().unwrap().wait_with_output().unwrap();
-        assert_eq!((said.status.code(), said.stderr.escape_ascii().to_string()), (Some(2), "the answer cannot be written\\n".to_string()));
+        assert_eq!(
+            (said.status.code(), said.stderr.escape_ascii().to_string()),
+            (Some(2), format!("{name}: the answer cannot be written\\n"))
+        );
     }
 }

@@ -33,7 +33,10 @@ fn answer_input(text: &mut [u8]) -> u32
         return program::fail(b"lpac_check: standard input cannot be read\n");
     }
     let n = i.bytes;
-    program::status(say_answer(lpac_host::host_answer(&text[..n])))
+    program::status(
+        say_answer(lpac_host::host_answer(&text[..n])),
+        b"lpac_check: the answer cannot be written\n",
+    )
 }
 
 // The program. Its result is the exit status: 0 where an answer was given, 2 where none was.

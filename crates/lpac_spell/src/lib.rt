@@ -100,7 +100,10 @@ fn answer_input(text: &mut [u8]) -> u32
         return program::fail(b"lpac_spell: standard input cannot be read\n");
     }
     let n = i.bytes;
-    program::status(answer_text(&text[..n]))
+    program::status(
+        answer_text(&text[..n]),
+        b"lpac_spell: the answer cannot be written\n",
+    )
 }
 
 // The program. Its result is the exit status: 0 where all was answered, 2 where it was not.

@@ -50,12 +50,12 @@ pub fn fail(what: &[u8]) -> u32
     FAILED
 }
 
-// The status of a program whose answer was written, or was not.
-pub fn status(written: bool) -> u32
+// The status of a program whose answer was written; where it was not, this is said.
+pub fn status(written: bool, otherwise: &[u8]) -> u32
     ensures { λ r. ⌜ r ≡ statusOf written ⌝ }
 {
     if written {
         return DONE;
     }
-    fail(b"the answer cannot be written\n")
+    fail(otherwise)
 }
