@@ -18,31 +18,10 @@ abbrev μ-loop : tie.MeasureT-loop
 loop-holds : tie.Need-loop-holds Inv-loop μ-loop
 loop-holds c = let a = c .before .before .args in (omega arith, appended-start 0 (a .n) (termOf (a .t)) (a .b .now) (a .out .now))
 
-mul-read-term : tie.Need-mul-read-term Inv-loop μ-loop
-mul-read-term c = search needs
-
-read-term-requires : tie.Need-read-term-requires Inv-loop μ-loop
-read-term-requires c κs = search needs
-
-product-of-requires : tie.Need-product-of-requires Inv-loop μ-loop
-product-of-requires c κs = search needs
-
-add-write-term : tie.Need-add-write-term Inv-loop μ-loop
-add-write-term c = search needs
-
-mul-write-term : tie.Need-mul-write-term Inv-loop μ-loop
-mul-write-term c = search needs
-
 write-term-requires : tie.Need-write-term-requires Inv-loop μ-loop
 write-term-requires c κs =
     let w = c .before .before .before .before .loop .inv .1 .within .same in
     omega arith
-
-add-i : tie.Need-add-i Inv-loop μ-loop
-add-i c = search needs
-
-loop-less : tie.Need-loop-less Inv-loop μ-loop
-loop-less c = search needs
 
 loop-again : tie.Need-loop-again Inv-loop μ-loop
 loop-again c =
@@ -55,9 +34,6 @@ loop-again c =
           (d .before .read-term .ensures) (search needs) (d .product-of .ensures) (k .write-term .ensures),
     )
 
-same-length : tie.Need-same-length Inv-loop μ-loop
-same-length c = c .before .loop .inv .1 .within .same
-
 returns : tie.Need-returns Inv-loop μ-loop
 returns c =
     let b = c .before in
@@ -66,19 +42,6 @@ returns c =
 
 pub append-times-spec : {M : Type 1} → statement M
 append-times-spec =
-    tie.close
-    (tie.spec
-    Inv-loop
-    μ-loop
-    loop-holds
-    mul-read-term
-    read-term-requires
-    product-of-requires
-    add-write-term
-    mul-write-term
-    write-term-requires
-    add-i
-    loop-less
-    loop-again
-    same-length
+    tie.close (tie.spec Inv-loop μ-loop loop-holds (λ c. search needs) (λ c κs. search needs) (λ c κs. search needs) (λ c. search needs)
+    (λ c. search needs) write-term-requires (λ c. search needs) (λ c. search needs) loop-again (λ c. c .before .loop .inv .1 .within .same)
     returns)

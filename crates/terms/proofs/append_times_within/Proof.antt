@@ -19,39 +19,15 @@ abbrev μ-loop : tie.MeasureT-loop
 loop-holds : tie.Need-loop-holds Inv-loop μ-loop
 loop-holds c = let a = c .before .args in (omega arith, appended-start (a .out) (a .n) (termOf (a .t)) (drop (a .at) (a .s .now)) (a .s .now))
 
-mul-read-term : tie.Need-mul-read-term Inv-loop μ-loop
-mul-read-term c = search needs
-
-add-read-term : tie.Need-add-read-term Inv-loop μ-loop
-add-read-term c = search needs
-
 read-term-requires : tie.Need-read-term-requires Inv-loop μ-loop
 read-term-requires c κs =
     let w = c .before .before .loop .inv .1 .within .same in
     omega arith
 
-product-of-requires : tie.Need-product-of-requires Inv-loop μ-loop
-product-of-requires c κs = search needs
-
-add-write-term : tie.Need-add-write-term Inv-loop μ-loop
-add-write-term c = search needs
-
-mul-write-term : tie.Need-mul-write-term Inv-loop μ-loop
-mul-write-term c = search needs
-
-add-write-term-2 : tie.Need-add-write-term-2 Inv-loop μ-loop
-add-write-term-2 c = search needs
-
 write-term-requires : tie.Need-write-term-requires Inv-loop μ-loop
 write-term-requires c κs =
     let w = c .before .before .before .before .before .loop .inv .1 .within .same in
     omega arith
-
-add-i : tie.Need-add-i Inv-loop μ-loop
-add-i c = search needs
-
-loop-less : tie.Need-loop-less Inv-loop μ-loop
-loop-less c = search needs
 
 loop-again : tie.Need-loop-again Inv-loop μ-loop
 loop-again c =
@@ -66,9 +42,6 @@ loop-again c =
           (search needs) (d .product-of .ensures) (k .write-term .ensures),
     )
 
-same-length : tie.Need-same-length Inv-loop μ-loop
-same-length c = c .before .loop .inv .1 .within .same
-
 returns : tie.Need-returns Inv-loop μ-loop
 returns c =
     let b = c .before in
@@ -77,21 +50,6 @@ returns c =
 
 pub append-times-within-spec : {M : Type 1} → statement M
 append-times-within-spec =
-    tie.close
-    (tie.spec
-    Inv-loop
-    μ-loop
-    loop-holds
-    mul-read-term
-    add-read-term
-    read-term-requires
-    product-of-requires
-    add-write-term
-    mul-write-term
-    add-write-term-2
-    write-term-requires
-    add-i
-    loop-less
-    loop-again
-    same-length
-    returns)
+    tie.close (tie.spec Inv-loop μ-loop loop-holds (λ c. search needs) (λ c. search needs) read-term-requires (λ c κs. search needs)
+    (λ c. search needs) (λ c. search needs) (λ c. search needs) write-term-requires (λ c. search needs) (λ c. search needs) loop-again
+    (λ c. c .before .loop .inv .1 .within .same) returns)

@@ -4,27 +4,6 @@ use Rattle.terms.proofs.Products.{product-made}
 use Rattle.terms.proofs.product_of.Statement.{statement}
 use Rattle.terms.proofs.product_of.Tie as tie
 
-set-of-requires : tie.Need-set-of-requires
-set-of-requires c κs = search needs
-
-set-of-requires-2 : tie.Need-set-of-requires-2
-set-of-requires-2 c κs = search needs
-
-union-requires : tie.Need-union-requires
-union-requires c κs = search needs
-
-array-read-times : tie.Need-array-read-times
-array-read-times c = search needs
-
-array-read-times-2 : tie.Need-array-read-times-2
-array-read-times-2 c = search needs
-
-times-requires : tie.Need-times-requires
-times-requires c κs = search needs
-
-term-of-requires : tie.Need-term-of-requires
-term-of-requires c κs = search needs
-
 returns : tie.Need-returns
 returns c =
     let x = c .before in
@@ -34,13 +13,5 @@ returns c =
 
 pub product-of-spec : {M : Type 1} → statement M
 product-of-spec =
-    tie.close
-    (tie.spec
-    set-of-requires
-    set-of-requires-2
-    union-requires
-    array-read-times
-    array-read-times-2
-    times-requires
-    term-of-requires
-    returns)
+    tie.close (tie.spec (λ c κs. search needs) (λ c κs. search needs) (λ c κs. search needs) (λ c. search needs) (λ c. search needs)
+    (λ c κs. search needs) (λ c κs. search needs) returns)

@@ -22,24 +22,6 @@ returns c =
     let a = c .before .before .before .args in
     run-longer (a .m) (a .n) (a .a .now) (a .b .now) (c .if1 .taken)
 
-loop-holds : tie.Need-loop-holds Inv-loop μ-loop
-loop-holds c = (omega arith, omega arith, refl)
-
-mul-read-term : tie.Need-mul-read-term Inv-loop μ-loop
-mul-read-term c = search needs
-
-read-term-requires : tie.Need-read-term-requires Inv-loop μ-loop
-read-term-requires c κs = search needs
-
-mul-read-term-2 : tie.Need-mul-read-term-2 Inv-loop μ-loop
-mul-read-term-2 c = search needs
-
-read-term-requires-2 : tie.Need-read-term-requires-2 Inv-loop μ-loop
-read-term-requires-2 c κs = search needs
-
-same-term-requires : tie.Need-same-term-requires Inv-loop μ-loop
-same-term-requires c κs = search needs
-
 returns-2 : tie.Need-returns-2 Inv-loop μ-loop
 returns-2 c =
     let d = c .before in
@@ -47,12 +29,6 @@ returns-2 c =
     let a = b .before .before .before .before .args in
     run-apart (a .n) (b .loop .i) (a .a .now) (a .b .now) (omega arith) _ _ _ (d .before .before .read-term .ensures) (d .before .read-term2 .ensures) (d .same-term .ensures)
     (a .m) (b .loop .inv .1) (b .loop .inv .2) (not-true _ (c .if2 .taken))
-
-add-i : tie.Need-add-i Inv-loop μ-loop
-add-i c = search needs
-
-loop-less : tie.Need-loop-less Inv-loop μ-loop
-loop-less c = search needs
 
 loop-again : tie.Need-loop-again Inv-loop μ-loop
 loop-again c =
@@ -73,19 +49,6 @@ returns-3 c =
 
 pub same-run-spec : {M : Type 1} → statement M
 same-run-spec =
-    tie.close
-    (tie.spec
-    Inv-loop
-    μ-loop
-    returns
-    loop-holds
-    mul-read-term
-    read-term-requires
-    mul-read-term-2
-    read-term-requires-2
-    same-term-requires
-    returns-2
-    add-i
-    loop-less
-    loop-again
+    tie.close (tie.spec Inv-loop μ-loop returns (λ c. (omega arith, omega arith, refl)) (λ c. search needs) (λ c κs. search needs)
+    (λ c. search needs) (λ c κs. search needs) (λ c κs. search needs) returns-2 (λ c. search needs) (λ c. search needs) loop-again
     returns-3)

@@ -5,21 +5,11 @@ use Rattle.terms.proofs.Runs.{term-apart, term-alike}
 use Rattle.terms.proofs.same_term.Statement.{statement}
 use Rattle.terms.proofs.same_term.Tie as tie
 
-same-set-requires : tie.Need-same-set-requires
-same-set-requires c κs = search needs
-
 returns : tie.Need-returns
 returns c = term-apart _ _ _ (c .before .same-set .ensures) (not-true _ (c .if1 .taken))
-
-array-read-result : tie.Need-array-read-result
-array-read-result c = search needs
-
-array-read-result-2 : tie.Need-array-read-result-2
-array-read-result-2 c = search needs
 
 returns-2 : tie.Need-returns-2
 returns-2 c = term-alike _ _ _ (c .before .same-set .ensures) (not-false _ (c .if1 .left))
 
 pub same-term-spec : {M : Type 1} → statement M
-same-term-spec =
-    tie.close (tie.spec same-set-requires returns array-read-result array-read-result-2 returns-2)
+same-term-spec = tie.close (tie.spec (λ c κs. search needs) returns (λ c. search needs) (λ c. search needs) returns-2)

@@ -18,27 +18,6 @@ Inv-loop t a₀ i₀ a i = (i ≤ setWords) × (length t ≡ termWords) × (leng
 abbrev μ-loop : tie.MeasureT-loop
 μ-loop t a₀ i₀ a i = setWords - i
 
-loop-holds : tie.Need-loop-holds Inv-loop μ-loop
-loop-holds c = (omega arith, search needs, refl, refl)
-
-mul-a : tie.Need-mul-a Inv-loop μ-loop
-mul-a c = search needs
-
-array-read-a : tie.Need-array-read-a Inv-loop μ-loop
-array-read-a c = search needs
-
-mul-a-2 : tie.Need-mul-a-2 Inv-loop μ-loop
-mul-a-2 c = search needs
-
-array-write-a : tie.Need-array-write-a Inv-loop μ-loop
-array-write-a c = search needs
-
-add-i : tie.Need-add-i Inv-loop μ-loop
-add-i c = search needs
-
-loop-less : tie.Need-loop-less Inv-loop μ-loop
-loop-less c = search needs
-
 loop-again : tie.Need-loop-again Inv-loop μ-loop
 loop-again c =
     let b = c .before in
@@ -54,16 +33,5 @@ returns c =
 
 pub set-of-spec : {M : Type 1} → statement M
 set-of-spec =
-    tie.close
-    (tie.spec
-    Inv-loop
-    μ-loop
-    loop-holds
-    mul-a
-    array-read-a
-    mul-a-2
-    array-write-a
-    add-i
-    loop-less
-    loop-again
-    returns)
+    tie.close (tie.spec Inv-loop μ-loop (λ c. (omega arith, search needs, refl, refl)) (λ c. search needs) (λ c. search needs)
+    (λ c. search needs) (λ c. search needs) (λ c. search needs) (λ c. search needs) loop-again returns)

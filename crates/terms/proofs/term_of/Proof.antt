@@ -18,27 +18,6 @@ Inv-loop c a t₀ i₀ t i = (i ≤ setWords) × (length a ≡ setWords) × (len
 abbrev μ-loop : tie.MeasureT-loop
 μ-loop c a t₀ i₀ t i = setWords - i
 
-loop-holds : tie.Need-loop-holds Inv-loop μ-loop
-loop-holds c = (omega arith, search needs, refl, refl)
-
-mul-t : tie.Need-mul-t Inv-loop μ-loop
-mul-t c = search needs
-
-array-read-t : tie.Need-array-read-t Inv-loop μ-loop
-array-read-t c = search needs
-
-mul-t-2 : tie.Need-mul-t-2 Inv-loop μ-loop
-mul-t-2 c = search needs
-
-array-write-t : tie.Need-array-write-t Inv-loop μ-loop
-array-write-t c = search needs
-
-add-i : tie.Need-add-i Inv-loop μ-loop
-add-i c = search needs
-
-loop-less : tie.Need-loop-less Inv-loop μ-loop
-loop-less c = search needs
-
 loop-again : tie.Need-loop-again Inv-loop μ-loop
 loop-again c =
     let b = c .before in
@@ -54,16 +33,5 @@ returns c =
 
 pub term-of-spec : {M : Type 1} → statement M
 term-of-spec =
-    tie.close
-    (tie.spec
-    Inv-loop
-    μ-loop
-    loop-holds
-    mul-t
-    array-read-t
-    mul-t-2
-    array-write-t
-    add-i
-    loop-less
-    loop-again
-    returns)
+    tie.close (tie.spec Inv-loop μ-loop (λ c. (omega arith, search needs, refl, refl)) (λ c. search needs) (λ c. search needs)
+    (λ c. search needs) (λ c. search needs) (λ c. search needs) (λ c. search needs) loop-again returns)

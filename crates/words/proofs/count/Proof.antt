@@ -22,12 +22,6 @@ abbrev μ-loop : tie.MeasureT-loop
 loop-holds : tie.Need-loop-holds Inv-loop μ-loop
 loop-holds c = (omega arith, count-start (c .args .t1))
 
-mul-n : tie.Need-mul-n Inv-loop μ-loop
-mul-n c = search needs
-
-array-read-n : tie.Need-array-read-n Inv-loop μ-loop
-array-read-n c = search needs
-
 cast-n : tie.Need-cast-n Inv-loop μ-loop
 cast-n c =
     let loop = c .before .loop in
@@ -40,12 +34,6 @@ add-n c =
     let args = c .before .before .args in
     let f : Words (args .t1) = λ i. search needs in
     record { fits = omega (arith, count-word (args .t1) (loop .i) f, count-le (args .t1) (loop .i) f (search needs)) }
-
-add-i : tie.Need-add-i Inv-loop μ-loop
-add-i c = search needs
-
-loop-less : tie.Need-loop-less Inv-loop μ-loop
-loop-less c = search needs
 
 loop-again : tie.Need-loop-again Inv-loop μ-loop
 loop-again c =
@@ -61,16 +49,5 @@ returns c =
 
 pub count-spec : {M : Type 1} → statement M
 count-spec =
-    tie.close
-    (tie.spec
-    Inv-loop
-    μ-loop
-    loop-holds
-    mul-n
-    array-read-n
-    cast-n
-    add-n
-    add-i
-    loop-less
-    loop-again
-    returns)
+    tie.close (tie.spec Inv-loop μ-loop loop-holds (λ c. search needs) (λ c. search needs) cast-n add-n (λ c. search needs)
+    (λ c. search needs) loop-again returns)

@@ -6,17 +6,8 @@ use Rattle.words.proofs.Wrap.{and-ones}
 use Rattle.words.proofs.cut.Statement.{statement}
 use Rattle.words.proofs.cut.Tie as tie
 
-sub-result : tie.Need-sub-result
-sub-result c = search needs
-
-cast-result : tie.Need-cast-result
-cast-result c = search needs
-
-shr-result : tie.Need-shr-result
-shr-result c = search needs
-
 returns : tie.Need-returns
 returns c = and-ones (c .args .k) (omega arith) (c .args .c)
 
 pub cut-spec : {M : Type 1} → statement M
-cut-spec = tie.close (tie.spec sub-result cast-result shr-result returns)
+cut-spec = tie.close (tie.spec (λ c. search needs) (λ c. search needs) (λ c. search needs) returns)

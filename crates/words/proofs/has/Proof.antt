@@ -5,17 +5,8 @@ use Rattle.words.proofs.WordByWord.{number-has}
 use Rattle.words.proofs.has.Statement.{statement}
 use Rattle.words.proofs.has.Tie as tie
 
-mul-result : tie.Need-mul-result
-mul-result c = search needs
-
-array-read-result : tie.Need-array-read-result
-array-read-result c = search needs
-
-shr-result : tie.Need-shr-result
-shr-result c = search needs
-
 returns : tie.Need-returns
 returns c = number-has (c .args .t1) (c .args .v) (λ i. search needs)
 
 pub has-spec : {M : Type 1} → statement M
-has-spec = tie.close (tie.spec mul-result array-read-result shr-result returns)
+has-spec = tie.close (tie.spec (λ c. search needs) (λ c. search needs) (λ c. search needs) returns)

@@ -17,12 +17,6 @@ mul-left c = record { fits = halves-fit (omega arith) (mask-lt (c .args .b) 32) 
 mul-right : tie.Need-mul-right
 mul-right c = record { fits = halves-fit (mask-lt (c .args .a) 32) (omega arith) }
 
-wrapping-add-u64-requires : tie.Need-wrapping-add-u64-requires
-wrapping-add-u64-requires c κs = search needs
-
-wrapping-add-u64-requires-2 : tie.Need-wrapping-add-u64-requires-2
-wrapping-add-u64-requires-2 c κs = search needs
-
 returns : tie.Need-returns
 returns c =
     let args = c .before .before .args in
@@ -30,12 +24,4 @@ returns c =
     c .wrapping-add-u642 .ensures ∙ halves (args .a) (args .b) (cross .result) (cross .ensures)
 
 pub times-spec : {M : Type 1} → statement M
-times-spec =
-    tie.close
-    (tie.spec
-    mul-low
-    mul-left
-    mul-right
-    wrapping-add-u64-requires
-    wrapping-add-u64-requires-2
-    returns)
+times-spec = tie.close (tie.spec mul-low mul-left mul-right (λ c κs. search needs) (λ c κs. search needs) returns)

@@ -5,11 +5,8 @@ use Rattle.words.proofs.Laws.{and-lowest}
 use Rattle.words.proofs.without_lowest.Statement.{statement}
 use Rattle.words.proofs.without_lowest.Tie as tie
 
-sub-result : tie.Need-sub-result
-sub-result c = search needs
-
 returns : tie.Need-returns
 returns c = λ v l. and-lowest (search needs) l
 
 pub without-lowest-spec : {M : Type 1} → statement M
-without-lowest-spec = tie.close (tie.spec sub-result returns)
+without-lowest-spec = tie.close (tie.spec (λ c. search needs) returns)

@@ -17,28 +17,10 @@ Inv-loop room₀ i₀ room i = (i ≤ length room₀) × (length room ≡ length
 abbrev μ-loop : tie.MeasureT-loop
 μ-loop room₀ i₀ room i = length room₀ - i
 
-loop-holds : tie.Need-loop-holds Inv-loop μ-loop
-loop-holds c = search needs
-
-mul-room : tie.Need-mul-room Inv-loop μ-loop
-mul-room c = search needs
-
-slice-write-room : tie.Need-slice-write-room Inv-loop μ-loop
-slice-write-room c = search needs
-
-add-i : tie.Need-add-i Inv-loop μ-loop
-add-i c = search needs
-
-loop-less : tie.Need-loop-less Inv-loop μ-loop
-loop-less c = search needs
-
 loop-again : tie.Need-loop-again Inv-loop μ-loop
 loop-again c =
     let loop = c .before .loop in
     (omega arith, search needs, rw (loop .inv .2) (fill-more (loop .i) 0 (c .before .before .args .room .now) (omega arith)))
-
-same-length : tie.Need-same-length Inv-loop μ-loop
-same-length c = search needs
 
 returns : tie.Need-returns Inv-loop μ-loop
 returns c =
@@ -49,15 +31,5 @@ returns c =
 
 pub zero-spec : {M : Type 1} → statement M
 zero-spec =
-    tie.close
-    (tie.spec
-    Inv-loop
-    μ-loop
-    loop-holds
-    mul-room
-    slice-write-room
-    add-i
-    loop-less
-    loop-again
-    same-length
-    returns)
+    tie.close (tie.spec Inv-loop μ-loop (λ c. search needs) (λ c. search needs) (λ c. search needs) (λ c. search needs) (λ c. search needs)
+    loop-again (λ c. search needs) returns)
