@@ -18,44 +18,14 @@ Inv-loop column₀ j n fall gone k₀ column k =
 abbrev μ-loop : tie.MeasureT-loop
 μ-loop column₀ j n fall gone k₀ column k = n - k
 
-mul-gone : tie.Need-mul-gone Inv-loop μ-loop
-mul-gone c = search needs
-
-element-copy-out-gone : tie.Need-element-copy-out-gone Inv-loop μ-loop
-element-copy-out-gone c = search needs
-
 loop-holds : tie.Need-loop-holds Inv-loop μ-loop
 loop-holds c = (search needs, search needs, search needs, closed-none (c .before .args .column .now) (c .before .args .j) (c .before .args .fall))
-
-add-loop : tie.Need-add-loop Inv-loop μ-loop
-add-loop c = search needs
-
-add-column : tie.Need-add-column Inv-loop μ-loop
-add-column c = search needs
-
-mul-column : tie.Need-mul-column Inv-loop μ-loop
-mul-column c = search needs
-
-element-copy-out-column : tie.Need-element-copy-out-column Inv-loop μ-loop
-element-copy-out-column c = search needs
 
 sub-column : tie.Need-sub-column Inv-loop μ-loop
 sub-column c =
     let loop = c .before .before .loop in
     let k : ℕ = loop .k in
     omega (arith, loop .inv .3 .rest (k + 1) (omega arith), c .before .before .before .before .pre .1 .least (k + 1) (omega arith) (omega arith))
-
-mul-column-2 : tie.Need-mul-column-2 Inv-loop μ-loop
-mul-column-2 c = search needs
-
-element-write-column : tie.Need-element-write-column Inv-loop μ-loop
-element-write-column c = search needs
-
-add-k : tie.Need-add-k Inv-loop μ-loop
-add-k c = search needs
-
-loop-less : tie.Need-loop-less Inv-loop μ-loop
-loop-less c = search needs
 
 loop-again : tie.Need-loop-again Inv-loop μ-loop
 loop-again c =
@@ -76,21 +46,6 @@ returns c =
 
 pub close-spec : {M : Type 1} → statement M
 close-spec =
-    tie.close
-    (tie.spec
-    Inv-loop
-    μ-loop
-    mul-gone
-    element-copy-out-gone
-    loop-holds
-    add-loop
-    add-column
-    mul-column
-    element-copy-out-column
-    sub-column
-    mul-column-2
-    element-write-column
-    add-k
-    loop-less
-    loop-again
-    returns)
+    tie.close (tie.spec Inv-loop μ-loop (λ c. search needs) (λ c. search needs) loop-holds (λ c. search needs) (λ c. search needs)
+    (λ c. search needs) (λ c. search needs) sub-column (λ c. search needs) (λ c. search needs) (λ c. search needs) (λ c. search needs)
+    loop-again returns)

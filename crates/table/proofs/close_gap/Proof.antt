@@ -16,49 +16,16 @@ Inv-loop pool₀ at len used from size i₀ pool i = (i ≤ size) × (length poo
 abbrev μ-loop : tie.MeasureT-loop
 μ-loop pool₀ at len used from size i₀ pool i = size - i
 
-add-from : tie.Need-add-from Inv-loop μ-loop
-add-from c = search needs
-
-sub-size : tie.Need-sub-size Inv-loop μ-loop
-sub-size c = search needs
-
 loop-holds : tie.Need-loop-holds Inv-loop μ-loop
 loop-holds c =
     let args = c .args in
     (search needs, search needs, paste-zero (args .pool .now) (args .at) (drop (args .at + args .len) (args .pool .now)))
-
-add-pool : tie.Need-add-pool Inv-loop μ-loop
-add-pool c = search needs
-
-mul-pool : tie.Need-mul-pool Inv-loop μ-loop
-mul-pool c = search needs
-
-slice-read-pool : tie.Need-slice-read-pool Inv-loop μ-loop
-slice-read-pool c = search needs
-
-add-pool-2 : tie.Need-add-pool-2 Inv-loop μ-loop
-add-pool-2 c = search needs
-
-mul-pool-2 : tie.Need-mul-pool-2 Inv-loop μ-loop
-mul-pool-2 c = search needs
-
-slice-write-pool : tie.Need-slice-write-pool Inv-loop μ-loop
-slice-write-pool c = search needs
-
-add-i : tie.Need-add-i Inv-loop μ-loop
-add-i c = search needs
-
-loop-less : tie.Need-loop-less Inv-loop μ-loop
-loop-less c = search needs
 
 loop-again : tie.Need-loop-again Inv-loop μ-loop
 loop-again c =
     let loop = c .before .before .loop in
     let args = c .before .before .before .args in
     (omega arith, search needs, rw (loop .inv .2) (moved-more (args .pool .now) (args .at) (args .len) (loop .i) (omega arith)))
-
-same-length : tie.Need-same-length Inv-loop μ-loop
-same-length c = search needs
 
 returns : tie.Need-returns Inv-loop μ-loop
 returns c =
@@ -69,21 +36,6 @@ returns c =
 
 pub close-gap-spec : {M : Type 1} → statement M
 close-gap-spec =
-    tie.close
-    (tie.spec
-    Inv-loop
-    μ-loop
-    add-from
-    sub-size
-    loop-holds
-    add-pool
-    mul-pool
-    slice-read-pool
-    add-pool-2
-    mul-pool-2
-    slice-write-pool
-    add-i
-    loop-less
-    loop-again
-    same-length
-    returns)
+    tie.close (tie.spec Inv-loop μ-loop (λ c. search needs) (λ c. search needs) loop-holds (λ c. search needs) (λ c. search needs)
+    (λ c. search needs) (λ c. search needs) (λ c. search needs) (λ c. search needs) (λ c. search needs) (λ c. search needs) loop-again
+    (λ c. search needs) returns)

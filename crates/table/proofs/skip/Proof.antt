@@ -19,41 +19,13 @@ abbrev μ-loop : tie.MeasureT-loop
 loop-holds : tie.Need-loop-holds Inv-loop μ-loop
 loop-holds c = (omega arith, record { nowhere = below-none _ })
 
-add-loop : tie.Need-add-loop Inv-loop μ-loop
-add-loop c = search needs
-
-among-requires : tie.Need-among-requires Inv-loop μ-loop
-among-requires c κs = search needs
-
-returns : tie.Need-returns Inv-loop μ-loop
-returns c = search needs
-
-add-j : tie.Need-add-j Inv-loop μ-loop
-add-j c = search needs
-
-loop-less : tie.Need-loop-less Inv-loop μ-loop
-loop-less c = search needs
-
 loop-again : tie.Need-loop-again Inv-loop μ-loop
 loop-again c =
     let loop = c .before .before .before .loop in
     let args = c .before .before .before .before .args in
     (omega arith, record { nowhere = below-eight _ (args .column .now) (args .x) (λ k n. n) (loop .j) (loop .inv .1 .nowhere) (sym (c .before .among .ensures) ∙ c .if1 .left) })
 
-returns-2 : tie.Need-returns-2 Inv-loop μ-loop
-returns-2 c = search needs
-
 pub skip-spec : {M : Type 1} → statement M
 skip-spec =
-    tie.close
-    (tie.spec
-    Inv-loop
-    μ-loop
-    loop-holds
-    add-loop
-    among-requires
-    returns
-    add-j
-    loop-less
-    loop-again
-    returns-2)
+    tie.close (tie.spec Inv-loop μ-loop loop-holds (λ c. search needs) (λ c κs. search needs) (λ c. search needs) (λ c. search needs)
+    (λ c. search needs) loop-again (λ c. search needs))
