@@ -5,12 +5,6 @@ use Rattle.lpac_spell.proofs.Asking.{value-inside, large-inside, asks-v
 use Rattle.lpac_spell.proofs.asks.Statement.{statement}
 use Rattle.lpac_spell.proofs.asks.Tie as tie
 
-decimal-at-requires : tie.Need-decimal-at-requires
-decimal-at-requires c κs = search needs
-
-enum-known-d : tie.Need-enum-known-d
-enum-known-d c = search needs
-
 behind-tab-requires : tie.Need-behind-tab-requires
 behind-tab-requires c κs =
     let a = c .before .before .before .before .before .args in
@@ -18,21 +12,12 @@ behind-tab-requires c κs =
     let g = c .before .d .given in
     value-inside (a .line .now) (d .result) (d .ensures) (g .0 .0) (g .0 .1 .0) (g .1)
 
-enum-known-d-2 : tie.Need-enum-known-d-2
-enum-known-d-2 c = search needs
-
-add-behind-tab : tie.Need-add-behind-tab
-add-behind-tab c = search needs
-
 behind-tab-requires-2 : tie.Need-behind-tab-requires-2
 behind-tab-requires-2 c κs =
     let a = c .before .before .before .before .before .args in
     let d = c .before .before .before .decimal-at in
     let g = c .before .d2 .given in
     large-inside (a .line .now) (d .result) (d .ensures) (g .0 .0) (g .1)
-
-enum-told : tie.Need-enum-told
-enum-told c = search needs
 
 returns : tie.Need-returns
 returns c =
@@ -57,15 +42,5 @@ returns-3 c =
 
 pub asks-spec : {M : Type 1} → statement M
 asks-spec =
-    tie.close
-    (tie.spec
-    decimal-at-requires
-    enum-known-d
-    behind-tab-requires
-    enum-known-d-2
-    add-behind-tab
-    behind-tab-requires-2
-    enum-told
-    returns
-    returns-2
-    returns-3)
+    tie.close (tie.spec (λ c κs. search needs) (λ c. search needs) behind-tab-requires (λ c. search needs) (λ c. search needs)
+    behind-tab-requires-2 (λ c. search needs) returns returns-2 returns-3)

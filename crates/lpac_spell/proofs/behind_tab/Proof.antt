@@ -11,16 +11,10 @@ returns c =
     let a = c .before .args in
     tab-end (a .line .now) (a .k) (a .at) (omega arith)
 
-shared-slice-read-if2 : tie.Need-shared-slice-read-if2
-shared-slice-read-if2 c = search needs
-
 returns-2 : tie.Need-returns-2
 returns-2 c =
     let a = c .before .before .before .args in
     tab-not (a .line .now) (a .k) (a .at) (omega arith) (c .if2 .taken)
-
-add-t4 : tie.Need-add-t4
-add-t4 c = search needs
 
 returns-3 : tie.Need-returns-3
 returns-3 c =
@@ -28,4 +22,4 @@ returns-3 c =
     tab-here (a .line .now) (a .k) (a .at) (omega arith) (c .if2 .left)
 
 pub behind-tab-spec : {M : Type 1} → statement M
-behind-tab-spec = tie.close (tie.spec returns shared-slice-read-if2 returns-2 add-t4 returns-3)
+behind-tab-spec = tie.close (tie.spec returns (λ c. search needs) returns-2 (λ c. search needs) returns-3)

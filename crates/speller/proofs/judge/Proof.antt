@@ -8,15 +8,6 @@ use Rattle.speller.proofs.Judging.{judged-stuck, judged-some, judged-ra
 use Rattle.speller.proofs.judge.Statement.{statement}
 use Rattle.speller.proofs.judge.Tie as tie
 
-scan-field-requires : tie.Need-scan-field-requires
-scan-field-requires c κs = search needs
-
-enum-known-f : tie.Need-enum-known-f
-enum-known-f c = search needs
-
-enum-told : tie.Need-enum-told
-enum-told c = search needs
-
 returns : tie.Need-returns
 returns c =
     let a = c .before .before .before .before .args in
@@ -58,15 +49,5 @@ returns-7 c =
 
 pub judge-spec : {M : Type 1} → statement M
 judge-spec =
-    tie.close
-    (tie.spec
-    scan-field-requires
-    enum-known-f
-    enum-told
-    returns
-    returns-2
-    returns-3
-    returns-4
-    returns-5
-    returns-6
-    returns-7)
+    tie.close (tie.spec (λ c κs. search needs) (λ c. search needs) (λ c. search needs) returns returns-2 returns-3 returns-4 returns-5
+    returns-6 returns-7)

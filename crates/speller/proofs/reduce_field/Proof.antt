@@ -19,9 +19,6 @@ reduce-requires c κs =
       ring-most (b .args .k) (b .pre .0 .ring),
     )
 
-same-length : tie.Need-same-length
-same-length c = search needs
-
 returns : tie.Need-returns
 returns c =
     let b = c .before .before .before .before .before .before .before .before .before .before in
@@ -30,4 +27,4 @@ returns c =
     field-holds (b .args .field .now) (b .args .k) (b .pre .0) (b .args .scratch .now) (f .last .1 .1 .0) (f .result) (f .ensures) (r .last .0) (r .result) (r .ensures)
 
 pub reduce-field-spec : {M : Type 1} → statement M
-reduce-field-spec = tie.close (tie.spec read-field-requires reduce-requires same-length returns)
+reduce-field-spec = tie.close (tie.spec read-field-requires reduce-requires (λ c. search needs) returns)

@@ -8,22 +8,10 @@ use Rattle.speller.proofs.Giving.{spells-short, spells-long, spells-rea
 use Rattle.speller.proofs.spell.Statement.{statement}
 use Rattle.speller.proofs.spell.Tie as tie
 
-refused-requires : tie.Need-refused-requires
-refused-requires c κs = search needs
-
 returns : tie.Need-returns
 returns c =
     let a = c .before .before .before .before .before .args in
     spells-short (a .field .now) (a .k) (a .scratch .now) (a .out .now) (c .refused .result) (c .before .if1 .taken) (c .refused .ensures)
-
-zero-requires : tie.Need-zero-requires
-zero-requires c κs = search needs
-
-refused-requires-2 : tie.Need-refused-requires-2
-refused-requires-2 c κs = search needs
-
-same-length : tie.Need-same-length
-same-length c = search needs
 
 returns-2 : tie.Need-returns-2
 returns-2 c =
@@ -31,18 +19,6 @@ returns-2 c =
     let z = c .before .before .before .zero in
     spells-long (a .field .now) (a .k) (a .scratch .now) (a .out .now) (c .refused2 .result) (z .last .0) (c .before .before .before .before .before .before .if1 .left) (z .ensures)
     (c .before .before .before .before .before .if2 .taken) (c .refused2 .ensures)
-
-spell-within-requires : tie.Need-spell-within-requires
-spell-within-requires c κs = search needs
-
-zero-requires-2 : tie.Need-zero-requires-2
-zero-requires-2 c κs = search needs
-
-same-length-2 : tie.Need-same-length-2
-same-length-2 c = search needs
-
-same-length-3 : tie.Need-same-length-3
-same-length-3 c = search needs
 
 returns-3 : tie.Need-returns-3
 returns-3 c =
@@ -54,16 +30,5 @@ returns-3 c =
 
 pub spell-spec : {M : Type 1} → statement M
 spell-spec =
-    tie.close
-    (tie.spec
-    refused-requires
-    returns
-    zero-requires
-    refused-requires-2
-    same-length
-    returns-2
-    spell-within-requires
-    zero-requires-2
-    same-length-2
-    same-length-3
-    returns-3)
+    tie.close (tie.spec (λ c κs. search needs) returns (λ c κs. search needs) (λ c κs. search needs) (λ c. search needs) returns-2
+    (λ c κs. search needs) (λ c κs. search needs) (λ c. search needs) (λ c. search needs) returns-3)

@@ -9,12 +9,6 @@ use Rattle.speller.proofs.Giving.{gives-as, gives-refused, gives-field,
 use Rattle.speller.proofs.spell_within.Statement.{statement}
 use Rattle.speller.proofs.spell_within.Tie as tie
 
-judge-requires : tie.Need-judge-requires
-judge-requires c κs = search needs
-
-refused-requires : tie.Need-refused-requires
-refused-requires c κs = search needs
-
 returns : tie.Need-returns
 returns c =
     let a = c .before .before .before .before .before .before .args in
@@ -48,12 +42,6 @@ write-fitting-requires c κs =
       holds-cut (b .args .field .now) (b .args .k) (h .last .1 .1 .0) (h .result) (h .ensures),
     )
 
-same-length : tie.Need-same-length
-same-length c = search needs
-
-same-length-2 : tie.Need-same-length-2
-same-length-2 c = search needs
-
 returns-2 : tie.Need-returns-2
 returns-2 c =
     let b = c .before .before .before .before .before .before .before .before .before .before .before .before .before .before in
@@ -65,15 +53,5 @@ returns-2 c =
 
 pub spell-within-spec : {M : Type 1} → statement M
 spell-within-spec =
-    tie.close
-    (tie.spec
-    judge-requires
-    refused-requires
-    returns
-    cast-reduce-field
-    reduce-field-requires
-    cast-write-fitting
-    write-fitting-requires
-    same-length
-    same-length-2
-    returns-2)
+    tie.close (tie.spec (λ c κs. search needs) (λ c κs. search needs) returns cast-reduce-field reduce-field-requires cast-write-fitting
+    write-fitting-requires (λ c. search needs) (λ c. search needs) returns-2)

@@ -11,12 +11,6 @@ use Rattle.speller.proofs.Giving.{gives-full, gives-written}
 use Rattle.speller.proofs.write_fitting.Statement.{statement}
 use Rattle.speller.proofs.write_fitting.Tie as tie
 
-run-fits-requires : tie.Need-run-fits-requires
-run-fits-requires c κs = search needs
-
-refused-requires : tie.Need-refused-requires
-refused-requires c κs = search needs
-
 returns : tie.Need-returns
 returns c =
     let a = c .before .before .before .before .before .args in
@@ -33,9 +27,6 @@ write-run-requires c κs =
       leb-true (length (spell (a .k) (decode (a .n) (a .s .now)))) (length (a .out .now)) (sym (c .before .before .run-fits .ensures) ∙ not-false _ (c .before .if1 .left)),
     )
 
-same-length : tie.Need-same-length
-same-length c = search needs
-
 returns-2 : tie.Need-returns-2
 returns-2 c =
     let a = c .before .before .before .before .before .before .before .before .args in
@@ -45,5 +36,4 @@ returns-2 c =
 
 pub write-fitting-spec : {M : Type 1} → statement M
 write-fitting-spec =
-    tie.close
-    (tie.spec run-fits-requires refused-requires returns write-run-requires same-length returns-2)
+    tie.close (tie.spec (λ c κs. search needs) (λ c κs. search needs) returns write-run-requires (λ c. search needs) returns-2)

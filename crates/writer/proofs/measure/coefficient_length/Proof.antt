@@ -10,12 +10,6 @@ use Rattle.writer.proofs.Digits.{word-digits}
 use Rattle.writer.proofs.measure.coefficient_length.Statement.{statement}
 use Rattle.writer.proofs.measure.coefficient_length.Tie as tie
 
-with-sign-requires : tie.Need-with-sign-requires
-with-sign-requires c κs = search needs
-
-number-length-requires : tie.Need-number-length-requires
-number-length-requires c κs = search needs
-
 add-result : tie.Need-add-result
 add-result c =
     let n = c .before .number-length in
@@ -37,5 +31,4 @@ returns-2 c =
     omega (arith, n .ensures, ap length (signed-plus (s .result) (spellCoefficient (a .k) (a .c)) (s .ensures) (c .if1 .left)))
 
 pub coefficient-length-spec : {M : Type 1} → statement M
-coefficient-length-spec =
-    tie.close (tie.spec with-sign-requires number-length-requires add-result returns returns-2)
+coefficient-length-spec = tie.close (tie.spec (λ c κs. search needs) (λ c κs. search needs) add-result returns returns-2)

@@ -16,9 +16,6 @@ abbrev μ-loop : tie.MeasureT-loop
 loop-holds : tie.Need-loop-holds Inv-loop μ-loop
 loop-holds c = counting-start (c .args .n)
 
-add-digits : tie.Need-add-digits Inv-loop μ-loop
-add-digits c = search needs
-
 returns : tie.Need-returns Inv-loop μ-loop
 returns c =
     let l = c .before .before .loop in
@@ -28,9 +25,6 @@ mul-limit : tie.Need-mul-limit Inv-loop μ-loop
 mul-limit c =
     let l = c .before .before .loop in
     record { fits = counting-fits (c .before .before .before .args .n) (l .digits) (l .limit) (l .inv) (omega arith) }
-
-loop-less : tie.Need-loop-less Inv-loop μ-loop
-loop-less c = search needs
 
 loop-again : tie.Need-loop-again Inv-loop μ-loop
 loop-again c =
@@ -44,14 +38,4 @@ returns-2 c =
 
 pub number-length-spec : {M : Type 1} → statement M
 number-length-spec =
-    tie.close
-    (tie.spec
-    Inv-loop
-    μ-loop
-    loop-holds
-    add-digits
-    returns
-    mul-limit
-    loop-less
-    loop-again
-    returns-2)
+    tie.close (tie.spec Inv-loop μ-loop loop-holds (λ c. search needs) returns mul-limit (λ c. search needs) loop-again returns-2)

@@ -13,20 +13,14 @@ use Rattle.writer.proofs.Runs.{run-most}
 use Rattle.writer.proofs.measure.run_fits.Statement.{statement}
 use Rattle.writer.proofs.measure.run_fits.Tie as tie
 
-run-room-requires : tie.Need-run-room-requires
-run-room-requires c κs = search needs
-
 returns : tie.Need-returns
 returns c =
     let a = c .before .before .before .args in
     let p = decode (a .n) (a .s .now) in
     sym (le-leb (length (spell (a .k) p)) (a .size) (omega (arith, c .before .run-room .ensures, run-most (a .k) p (omega arith) (c .before .before .before .pre .4))))
 
-run-length-requires : tie.Need-run-length-requires
-run-length-requires c κs = search needs
-
 returns-2 : tie.Need-returns-2
 returns-2 c = ap (λ (n : ℕ). leb n (c .before .before .before .before .args .size)) (c .run-length .ensures)
 
 pub run-fits-spec : {M : Type 1} → statement M
-run-fits-spec = tie.close (tie.spec run-room-requires returns run-length-requires returns-2)
+run-fits-spec = tie.close (tie.spec (λ c κs. search needs) returns (λ c κs. search needs) returns-2)

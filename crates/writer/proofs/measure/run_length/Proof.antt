@@ -22,9 +22,6 @@ returns c =
     let a = c .before .before .args in
     sym (ap length (run-none (a .k) (a .n) (a .s .now) (c .if1 .taken)))
 
-read-term-requires : tie.Need-read-term-requires Inv-loop μ-loop
-read-term-requires c κs = search needs
-
 term-length-requires : tie.Need-term-length-requires Inv-loop μ-loop
 term-length-requires c κs =
     let a = c .before .before .before .args in
@@ -35,12 +32,6 @@ loop-holds c =
     let a = c .before .before .before .before .args in
     let t = c .before .read-term in
     (omega arith, omega (arith, c .term-length .ensures, run-length-first (a .k) (a .n) (a .s .now) (t .result) (omega arith) (t .ensures)))
-
-mul-read-term : tie.Need-mul-read-term Inv-loop μ-loop
-mul-read-term c = search needs
-
-read-term-requires-2 : tie.Need-read-term-requires-2 Inv-loop μ-loop
-read-term-requires-2 c κs = search needs
 
 term-length-requires-2 : tie.Need-term-length-requires-2 Inv-loop μ-loop
 term-length-requires-2 c κs =
@@ -67,12 +58,6 @@ add-sum c = record { fits = omega (arith, sum-fits c) }
 add-sum-2 : tie.Need-add-sum-2 Inv-loop μ-loop
 add-sum-2 c = record { fits = omega (arith, sum-fits c) }
 
-add-i : tie.Need-add-i Inv-loop μ-loop
-add-i c = search needs
-
-loop-less : tie.Need-loop-less Inv-loop μ-loop
-loop-less c = search needs
-
 loop-again : tie.Need-loop-again Inv-loop μ-loop
 loop-again c =
     let a = c .before .before .before .before .before .before .before .before .args in
@@ -87,20 +72,5 @@ returns-2 c =
 
 pub run-length-spec : {M : Type 1} → statement M
 run-length-spec =
-    tie.close
-    (tie.spec
-    Inv-loop
-    μ-loop
-    returns
-    read-term-requires
-    term-length-requires
-    loop-holds
-    mul-read-term
-    read-term-requires-2
-    term-length-requires-2
-    add-sum
-    add-sum-2
-    add-i
-    loop-less
-    loop-again
-    returns-2)
+    tie.close (tie.spec Inv-loop μ-loop returns (λ c κs. search needs) term-length-requires loop-holds (λ c. search needs)
+    (λ c κs. search needs) term-length-requires-2 add-sum add-sum-2 (λ c. search needs) (λ c. search needs) loop-again returns-2)

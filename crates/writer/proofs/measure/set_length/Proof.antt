@@ -23,29 +23,11 @@ abbrev μ-loop : tie.MeasureT-loop
 loop-holds : tie.Need-loop-holds Inv-loop μ-loop
 loop-holds c = let a = c .args .t1 in (omega arith, omega (arith, ap length (set-start a (search needs))))
 
-mul-word-length : tie.Need-mul-word-length Inv-loop μ-loop
-mul-word-length c = search needs
-
-array-read-word-length : tie.Need-array-read-word-length Inv-loop μ-loop
-array-read-word-length c = search needs
-
-mul-word-length-2 : tie.Need-mul-word-length-2 Inv-loop μ-loop
-mul-word-length-2 c = search needs
-
-word-length-requires : tie.Need-word-length-requires Inv-loop μ-loop
-word-length-requires c κs = search needs
-
 add-sum : tie.Need-add-sum Inv-loop μ-loop
 add-sum c =
     let a = c .before .before .before .args .t1 in
     let l = c .before .before .loop in
     record { fits = omega (arith, c .word-length .ensures, set-length-more a (l .i) (λ i. search needs) (search needs), set-most (number a)) }
-
-add-i : tie.Need-add-i Inv-loop μ-loop
-add-i c = search needs
-
-loop-less : tie.Need-loop-less Inv-loop μ-loop
-loop-less c = search needs
 
 loop-again : tie.Need-loop-again Inv-loop μ-loop
 loop-again c =
@@ -61,17 +43,5 @@ returns c =
 
 pub set-length-spec : {M : Type 1} → statement M
 set-length-spec =
-    tie.close
-    (tie.spec
-    Inv-loop
-    μ-loop
-    loop-holds
-    mul-word-length
-    array-read-word-length
-    mul-word-length-2
-    word-length-requires
-    add-sum
-    add-i
-    loop-less
-    loop-again
-    returns)
+    tie.close (tie.spec Inv-loop μ-loop loop-holds (λ c. search needs) (λ c. search needs) (λ c. search needs) (λ c κs. search needs)
+    add-sum (λ c. search needs) (λ c. search needs) loop-again returns)

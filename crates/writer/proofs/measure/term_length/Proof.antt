@@ -7,17 +7,8 @@ use Rattle.writer.proofs.Runs.{term-coef, term-length-pieces, term-most
 use Rattle.writer.proofs.measure.term_length.Statement.{statement}
 use Rattle.writer.proofs.measure.term_length.Tie as tie
 
-array-read-coefficient-length : tie.Need-array-read-coefficient-length
-array-read-coefficient-length c = search needs
-
 coefficient-length-requires : tie.Need-coefficient-length-requires
 coefficient-length-requires c κs = (omega arith, omega arith, term-coef (c .args .k) (c .args .t1) (c .pre .2))
-
-set-of-requires : tie.Need-set-of-requires
-set-of-requires c κs = search needs
-
-set-length-requires : tie.Need-set-length-requires
-set-length-requires c κs = search needs
 
 add-result : tie.Need-add-result
 add-result c =
@@ -41,11 +32,4 @@ returns c =
 
 pub term-length-spec : {M : Type 1} → statement M
 term-length-spec =
-    tie.close
-    (tie.spec
-    array-read-coefficient-length
-    coefficient-length-requires
-    set-of-requires
-    set-length-requires
-    add-result
-    returns)
+    tie.close (tie.spec (λ c. search needs) coefficient-length-requires (λ c κs. search needs) (λ c κs. search needs) add-result returns)

@@ -20,24 +20,6 @@ Inv-loop w first sum₀ left₀ sum left = sum + length (gather dotted (members 
 abbrev μ-loop : tie.MeasureT-loop
 μ-loop w first sum₀ left₀ sum left = left
 
-loop-holds : tie.Need-loop-holds Inv-loop μ-loop
-loop-holds c = omega arith
-
-lowest-requires : tie.Need-lowest-requires Inv-loop μ-loop
-lowest-requires c κs = search needs
-
-cast-v : tie.Need-cast-v Inv-loop μ-loop
-cast-v c = search needs
-
-without-lowest-requires : tie.Need-without-lowest-requires Inv-loop μ-loop
-without-lowest-requires c κs = search needs
-
-add-number-length : tie.Need-add-number-length Inv-loop μ-loop
-add-number-length c = search needs
-
-number-length-requires : tie.Need-number-length-requires Inv-loop μ-loop
-number-length-requires c κs = search needs
-
 add-sum : tie.Need-add-sum Inv-loop μ-loop
 add-sum c =
     let v = c .before .before .lowest in
@@ -73,18 +55,5 @@ returns c =
 
 pub word-length-spec : {M : Type 1} → statement M
 word-length-spec =
-    tie.close
-    (tie.spec
-    Inv-loop
-    μ-loop
-    loop-holds
-    lowest-requires
-    cast-v
-    without-lowest-requires
-    add-number-length
-    number-length-requires
-    add-sum
-    add-sum-2
-    loop-less
-    loop-again
-    returns)
+    tie.close (tie.spec Inv-loop μ-loop (λ c. omega arith) (λ c κs. search needs) (λ c. search needs) (λ c κs. search needs)
+    (λ c. search needs) (λ c κs. search needs) add-sum add-sum-2 loop-less loop-again returns)

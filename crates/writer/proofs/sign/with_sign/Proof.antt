@@ -6,25 +6,10 @@ use Rattle.writer.proofs.Signs.{sign-plus, sign-minus}
 use Rattle.writer.proofs.sign.with_sign.Statement.{statement}
 use Rattle.writer.proofs.sign.with_sign.Tie as tie
 
-sub-half : tie.Need-sub-half
-sub-half c = search needs
-
-cast-half : tie.Need-cast-half
-cast-half c = search needs
-
-shl-half : tie.Need-shl-half
-shl-half c = search needs
-
 returns : tie.Need-returns
 returns c =
     let a = c .before .args in
     sign-plus (a .k) (a .c) (omega arith) (omega arith) (omega arith)
-
-negative-requires : tie.Need-negative-requires
-negative-requires c κs = search needs
-
-cut-requires : tie.Need-cut-requires
-cut-requires c κs = search needs
 
 returns-2 : tie.Need-returns-2
 returns-2 c =
@@ -33,5 +18,5 @@ returns-2 c =
 
 pub with-sign-spec : {M : Type 1} → statement M
 with-sign-spec =
-    tie.close
-    (tie.spec sub-half cast-half shl-half returns negative-requires cut-requires returns-2)
+    tie.close (tie.spec (λ c. search needs) (λ c. search needs) (λ c. search needs) returns (λ c κs. search needs) (λ c κs. search needs)
+    returns-2)

@@ -10,17 +10,11 @@ use Rattle.writer.proofs.Signs.{signed-minus, signed-plus}
 use Rattle.writer.proofs.write.write_coefficient.Statement.{statement}
 use Rattle.writer.proofs.write.write_coefficient.Tie as tie
 
-with-sign-requires : tie.Need-with-sign-requires
-with-sign-requires c κs = search needs
-
 slice-write-out : tie.Need-slice-write-out
 slice-write-out c =
     let s = c .before .with-sign in
     let a = c .before .before .before .args in
     omega (arith, ap length (signed-minus (s .result) (spellCoefficient (a .k) (a .c)) (s .ensures) (c .if1 .taken)))
-
-add-write-number : tie.Need-add-write-number
-add-write-number c = search needs
 
 write-number-requires : tie.Need-write-number-requires
 write-number-requires c κs =
@@ -45,9 +39,6 @@ write-number-requires-2 c κs =
     let a = c .before .before .before .before .args in
     omega (arith, ap length (signed-plus (s .result) (spellCoefficient (a .k) (a .c)) (s .ensures) (c .before .if1 .left)))
 
-same-length-2 : tie.Need-same-length-2
-same-length-2 c = search needs
-
 returns-2 : tie.Need-returns-2
 returns-2 c =
     let s = c .before .before .before .before .before .with-sign in
@@ -56,14 +47,5 @@ returns-2 c =
 
 pub write-coefficient-spec : {M : Type 1} → statement M
 write-coefficient-spec =
-    tie.close
-    (tie.spec
-    with-sign-requires
-    slice-write-out
-    add-write-number
-    write-number-requires
-    same-length
-    returns
-    write-number-requires-2
-    same-length-2
-    returns-2)
+    tie.close (tie.spec (λ c κs. search needs) slice-write-out (λ c. search needs) write-number-requires same-length returns
+    write-number-requires-2 (λ c. search needs) returns-2)

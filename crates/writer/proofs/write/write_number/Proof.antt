@@ -13,50 +13,20 @@ Inv-loop out₀ at n end i₀ left₀ out i left = Back out₀ at n out i left
 abbrev μ-loop : tie.MeasureT-loop
 μ-loop out₀ at n end i₀ left₀ out i left = left
 
-number-length-requires : tie.Need-number-length-requires Inv-loop μ-loop
-number-length-requires c κs = search needs
-
-add-end : tie.Need-add-end Inv-loop μ-loop
-add-end c = omega (arith, c .number-length .ensures)
-
 sub-i : tie.Need-sub-i Inv-loop μ-loop
 sub-i c = omega (arith, c .number-length .ensures, number-some (c .before .before .args .n))
 
 loop-holds : tie.Need-loop-holds Inv-loop μ-loop
 loop-holds c = back-start (c .before .before .args .out .now) (c .before .before .args .at) (c .before .before .args .n) (c .number-length .result) (c .number-length .ensures) (c .before .before .pre)
 
-cast-out : tie.Need-cast-out Inv-loop μ-loop
-cast-out c = search needs
-
-add-out : tie.Need-add-out Inv-loop μ-loop
-add-out c = search needs
-
-slice-write-out : tie.Need-slice-write-out Inv-loop μ-loop
-slice-write-out c = search needs
-
 sub-i-2 : tie.Need-sub-i-2 Inv-loop μ-loop
 sub-i-2 c = omega (arith, number-least 1 (c .before .loop .left) (omega arith))
-
-loop-less : tie.Need-loop-less Inv-loop μ-loop
-loop-less c = search needs
 
 loop-again : tie.Need-loop-again Inv-loop μ-loop
 loop-again c =
     let a = c .before .before .before .before .args in
     let l = c .before .loop in
     back-more (a .out .now) (a .at) (a .n) (l .out) (l .i) (l .left) (l .inv) (omega arith)
-
-cast-out-2 : tie.Need-cast-out-2 Inv-loop μ-loop
-cast-out-2 c = search needs
-
-add-out-2 : tie.Need-add-out-2 Inv-loop μ-loop
-add-out-2 c = search needs
-
-slice-write-out-2 : tie.Need-slice-write-out-2 Inv-loop μ-loop
-slice-write-out-2 c = search needs
-
-same-length : tie.Need-same-length Inv-loop μ-loop
-same-length c = search needs
 
 returns : tie.Need-returns Inv-loop μ-loop
 returns c =
@@ -66,22 +36,6 @@ returns c =
 
 pub write-number-spec : {M : Type 1} → statement M
 write-number-spec =
-    tie.close
-    (tie.spec
-    Inv-loop
-    μ-loop
-    number-length-requires
-    add-end
-    sub-i
-    loop-holds
-    cast-out
-    add-out
-    slice-write-out
-    sub-i-2
-    loop-less
-    loop-again
-    cast-out-2
-    add-out-2
-    slice-write-out-2
-    same-length
-    returns)
+    tie.close (tie.spec Inv-loop μ-loop (λ c κs. search needs) (λ c. omega (arith, c .number-length .ensures)) sub-i loop-holds
+    (λ c. search needs) (λ c. search needs) (λ c. search needs) sub-i-2 (λ c. search needs) loop-again (λ c. search needs)
+    (λ c. search needs) (λ c. search needs) (λ c. search needs) returns)

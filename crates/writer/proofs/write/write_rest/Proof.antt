@@ -21,12 +21,6 @@ loop-holds c =
     let a = c .before .before .args in
     (omega arith, left-start (a .out .now) (a .at) (runRest (a .k) (a .n) (a .s .now) 1))
 
-mul-read-term : tie.Need-mul-read-term Inv-loop μ-loop
-mul-read-term c = search needs
-
-read-term-requires : tie.Need-read-term-requires Inv-loop μ-loop
-read-term-requires c κs = search needs
-
 write-spaced-requires : tie.Need-write-spaced-requires Inv-loop μ-loop
 write-spaced-requires c κs =
     let b = c .before .before .before .before .before .before in
@@ -40,12 +34,6 @@ write-spaced-requires c κs =
           (run-more (a .k) (a .n) (a .s .now) (t .result) (l .i) (omega arith) (t .ensures)) (l .inv .1),
     )
 
-add-i : tie.Need-add-i Inv-loop μ-loop
-add-i c = search needs
-
-loop-less : tie.Need-loop-less Inv-loop μ-loop
-loop-less c = search needs
-
 loop-again : tie.Need-loop-again Inv-loop μ-loop
 loop-again c =
     let b = c .before .before .before .before .before .before .before .before .before in
@@ -54,9 +42,6 @@ loop-again c =
     let l = c .before .before .before .before .before .before .loop in
     (omega arith, left-more (b .pre .5) (run-more (a .k) (a .n) (a .s .now) (t .result) (l .i) (omega arith) (t .ensures)) (l .inv .1) (c .before .before .write-spaced .ensures))
 
-same-length : tie.Need-same-length Inv-loop μ-loop
-same-length c = c .before .loop .inv .1 .same
-
 returns : tie.Need-returns Inv-loop μ-loop
 returns c =
     let a = c .before .before .before .before .args in
@@ -64,16 +49,5 @@ returns c =
 
 pub write-rest-spec : {M : Type 1} → statement M
 write-rest-spec =
-    tie.close
-    (tie.spec
-    Inv-loop
-    μ-loop
-    loop-holds
-    mul-read-term
-    read-term-requires
-    write-spaced-requires
-    add-i
-    loop-less
-    loop-again
-    same-length
-    returns)
+    tie.close (tie.spec Inv-loop μ-loop loop-holds (λ c. search needs) (λ c κs. search needs) write-spaced-requires (λ c. search needs)
+    (λ c. search needs) loop-again (λ c. c .before .loop .inv .1 .same) returns)

@@ -14,17 +14,11 @@ slice-write-out c =
     let a = c .before .before .before .args in
     omega (arith, ap length (run-none (a .k) (a .n) (a .s .now) (c .if1 .taken)))
 
-same-length : tie.Need-same-length
-same-length c = search needs
-
 returns : tie.Need-returns
 returns c =
     let a = c .before .before .before .args in
     let e = run-none (a .k) (a .n) (a .s .now) (c .if1 .taken) in
     wrote-as (sym e) (wrote-byte (a .out .now) 0 48 (omega (arith, ap length e)))
-
-read-term-requires : tie.Need-read-term-requires
-read-term-requires c κs = search needs
 
 write-term-requires : tie.Need-write-term-requires
 write-term-requires c κs =
@@ -51,9 +45,6 @@ write-rest-requires c κs =
       omega (arith, b .pre .4, w .ensures .next, w .kept .0, run-length-first (a .k) (a .n) (a .s .now) (t .result) (omega arith) (t .ensures)),
     )
 
-same-length-2 : tie.Need-same-length-2
-same-length-2 c = search needs
-
 returns-2 : tie.Need-returns-2
 returns-2 c =
     let b = c .before .before .before .before .before .before .before .before .before .before .before .before in
@@ -64,13 +55,5 @@ returns-2 c =
 
 pub write-run-spec : {M : Type 1} → statement M
 write-run-spec =
-    tie.close
-    (tie.spec
-    slice-write-out
-    same-length
-    returns
-    read-term-requires
-    write-term-requires
-    write-rest-requires
-    same-length-2
-    returns-2)
+    tie.close (tie.spec slice-write-out (λ c. search needs) returns (λ c κs. search needs) write-term-requires write-rest-requires
+    (λ c. search needs) returns-2)

@@ -25,35 +25,17 @@ loop-holds c =
     let a = c .before .args in
     (omega arith, left-as (set-start (a .t3) (search needs)) (left-start (a .out .now) (a .at) (gather dotted (members variables 0 (number (a .t3))))))
 
-mul-write-word : tie.Need-mul-write-word Inv-loop μ-loop
-mul-write-word c = search needs
-
-array-read-write-word : tie.Need-array-read-write-word Inv-loop μ-loop
-array-read-write-word c = search needs
-
-mul-write-word-2 : tie.Need-mul-write-word-2 Inv-loop μ-loop
-mul-write-word-2 c = search needs
-
 write-word-requires : tie.Need-write-word-requires Inv-loop μ-loop
 write-word-requires c κs =
     let a = c .before .before .before .before .args in
     let l = c .before .before .loop in
     (omega arith, left-room (gather dotted (members 64 (64 * l .i) (getD (a .t3) (l .i) 0))) (setRest (a .t3) (l .i + 1)) (omega arith) (set-more (a .t3) (l .i) (λ i. search needs) (search needs)) (l .inv .1))
 
-add-i : tie.Need-add-i Inv-loop μ-loop
-add-i c = search needs
-
-loop-less : tie.Need-loop-less Inv-loop μ-loop
-loop-less c = search needs
-
 loop-again : tie.Need-loop-again Inv-loop μ-loop
 loop-again c =
     let a = c .before .before .before .before .before .before .before .args in
     let l = c .before .before .before .before .before .loop in
     (omega arith, left-more (omega arith) (set-more (a .t3) (l .i) (λ i. search needs) (search needs)) (l .inv .1) (c .before .before .write-word .ensures))
-
-same-length : tie.Need-same-length Inv-loop μ-loop
-same-length c = c .before .loop .inv .1 .same
 
 returns : tie.Need-returns Inv-loop μ-loop
 returns c =
@@ -62,17 +44,5 @@ returns c =
 
 pub write-set-spec : {M : Type 1} → statement M
 write-set-spec =
-    tie.close
-    (tie.spec
-    Inv-loop
-    μ-loop
-    loop-holds
-    mul-write-word
-    array-read-write-word
-    mul-write-word-2
-    write-word-requires
-    add-i
-    loop-less
-    loop-again
-    same-length
-    returns)
+    tie.close (tie.spec Inv-loop μ-loop loop-holds (λ c. search needs) (λ c. search needs) (λ c. search needs) write-word-requires
+    (λ c. search needs) (λ c. search needs) loop-again (λ c. c .before .loop .inv .1 .same) returns)

@@ -8,12 +8,6 @@ use Rattle.writer.proofs.Written.{wrote-byte, wrote-both}
 use Rattle.writer.proofs.write.write_spaced.Statement.{statement}
 use Rattle.writer.proofs.write.write_spaced.Tie as tie
 
-slice-write-out : tie.Need-slice-write-out
-slice-write-out c = search needs
-
-add-write-term : tie.Need-add-write-term
-add-write-term c = search needs
-
 write-term-requires : tie.Need-write-term-requires
 write-term-requires c κs =
     let l = length-set (c .before .before .args .out .now) (c .before .before .args .at) 32 in
@@ -28,5 +22,4 @@ returns c =
     wrote-both (omega arith) (wrote-byte (a .out .now) (a .at) 32 (omega arith)) (c .before .before .write-term .ensures)
 
 pub write-spaced-spec : {M : Type 1} → statement M
-write-spaced-spec =
-    tie.close (tie.spec slice-write-out add-write-term write-term-requires same-length returns)
+write-spaced-spec = tie.close (tie.spec (λ c. search needs) (λ c. search needs) write-term-requires same-length returns)

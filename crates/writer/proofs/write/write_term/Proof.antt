@@ -8,12 +8,6 @@ use Rattle.writer.proofs.Runs.{term-coef, term-pieces, term-length-piec
 use Rattle.writer.proofs.write.write_term.Statement.{statement}
 use Rattle.writer.proofs.write.write_term.Tie as tie
 
-set-of-requires : tie.Need-set-of-requires
-set-of-requires c κs = search needs
-
-array-read-write-coefficient : tie.Need-array-read-write-coefficient
-array-read-write-coefficient c = search needs
-
 write-coefficient-requires : tie.Need-write-coefficient-requires
 write-coefficient-requires c κs =
     let a = c .before .before .before .args in
@@ -27,9 +21,6 @@ write-set-requires c κs =
     let w = c .before .before .before .write-coefficient in
     omega (arith, w .ensures .next, w .kept .0, term-length-pieces (a .k) (a .t3) (s .result) (s .ensures), c .before .before .before .before .before .before .before .pre .3)
 
-same-length : tie.Need-same-length
-same-length c = search needs
-
 returns : tie.Need-returns
 returns c =
     let a = c .before .before .before .before .before .before .before .before .before .before .args in
@@ -40,11 +31,5 @@ returns c =
 
 pub write-term-spec : {M : Type 1} → statement M
 write-term-spec =
-    tie.close
-    (tie.spec
-    set-of-requires
-    array-read-write-coefficient
-    write-coefficient-requires
-    write-set-requires
-    same-length
+    tie.close (tie.spec (λ c κs. search needs) (λ c. search needs) write-coefficient-requires write-set-requires (λ c. search needs)
     returns)

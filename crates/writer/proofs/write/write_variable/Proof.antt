@@ -8,12 +8,6 @@ use Rattle.writer.proofs.Written.{wrote-byte, wrote-both}
 use Rattle.writer.proofs.write.write_variable.Statement.{statement}
 use Rattle.writer.proofs.write.write_variable.Tie as tie
 
-slice-write-out : tie.Need-slice-write-out
-slice-write-out c = search needs
-
-add-write-number : tie.Need-add-write-number
-add-write-number c = search needs
-
 write-number-requires : tie.Need-write-number-requires
 write-number-requires c κs = simp length-set (omega arith)
 
@@ -26,5 +20,4 @@ returns c =
     wrote-both (omega arith) (wrote-byte (a .out .now) (a .at) 46 (omega arith)) (c .before .before .write-number .ensures)
 
 pub write-variable-spec : {M : Type 1} → statement M
-write-variable-spec =
-    tie.close (tie.spec slice-write-out add-write-number write-number-requires same-length returns)
+write-variable-spec = tie.close (tie.spec (λ c. search needs) (λ c. search needs) write-number-requires same-length returns)

@@ -23,18 +23,6 @@ loop-holds c =
     let a = c .before .args in
     left-start (a .out .now) (a .at) (gather dotted (members 64 (a .first) (a .w)))
 
-lowest-requires : tie.Need-lowest-requires Inv-loop μ-loop
-lowest-requires c κs = search needs
-
-cast-v : tie.Need-cast-v Inv-loop μ-loop
-cast-v c = search needs
-
-without-lowest-requires : tie.Need-without-lowest-requires Inv-loop μ-loop
-without-lowest-requires c κs = search needs
-
-add-write-variable : tie.Need-add-write-variable Inv-loop μ-loop
-add-write-variable c = search needs
-
 write-variable-requires : tie.Need-write-variable-requires Inv-loop μ-loop
 write-variable-requires c κs =
     let v = c .before .before .lowest in
@@ -58,9 +46,6 @@ loop-again c =
     let a = c .before .before .before .before .before .before .before .before .before .args in
     left-more (omega arith) (word-more (a .first) (r .result) (v .ensures) (r .ensures (v .result) (v .ensures))) (l .inv) (c .before .before .write-variable .ensures)
 
-same-length : tie.Need-same-length Inv-loop μ-loop
-same-length c = c .before .loop .inv .same
-
 returns : tie.Need-returns Inv-loop μ-loop
 returns c =
     let l = c .before .loop in
@@ -68,17 +53,5 @@ returns c =
 
 pub write-word-spec : {M : Type 1} → statement M
 write-word-spec =
-    tie.close
-    (tie.spec
-    Inv-loop
-    μ-loop
-    loop-holds
-    lowest-requires
-    cast-v
-    without-lowest-requires
-    add-write-variable
-    write-variable-requires
-    loop-less
-    loop-again
-    same-length
-    returns)
+    tie.close (tie.spec Inv-loop μ-loop loop-holds (λ c κs. search needs) (λ c. search needs) (λ c κs. search needs) (λ c. search needs)
+    write-variable-requires loop-less loop-again (λ c. c .before .loop .inv .same) returns)
