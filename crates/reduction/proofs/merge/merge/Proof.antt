@@ -19,9 +19,6 @@ abbrev μ-loop : tie.MeasureT-loop
 loop-holds : tie.Need-loop-holds Inv-loop μ-loop
 loop-holds c = let a = c .before .args in (omega arith, merge-start (a .k) (a .n) (a .s .now))
 
-mul-read-term : tie.Need-mul-read-term Inv-loop μ-loop
-mul-read-term c = search needs
-
 read-term-requires : tie.Need-read-term-requires Inv-loop μ-loop
 read-term-requires c κs =
     let w = c .before .before .loop .inv .1 .within .same in
@@ -34,12 +31,6 @@ settle-requires c κs =
     let f = b .loop .inv .1 .few in
     (omega arith, omega arith, omega arith)
 
-add-i : tie.Need-add-i Inv-loop μ-loop
-add-i c = search needs
-
-loop-less : tie.Need-loop-less Inv-loop μ-loop
-loop-less c = search needs
-
 loop-again : tie.Need-loop-again Inv-loop μ-loop
 loop-again c =
     let k = c .before .before in
@@ -47,9 +38,6 @@ loop-again c =
     let b = d .before .before .before in
     let a = b .before .before .args in
     (omega arith, merge-more (a .k) (a .n) (b .loop .i) (b .loop .left) _ (a .s .now) (b .loop .s) _ _ (b .before .before .pre .3) (omega arith) (b .loop .inv .1) (d .read-term .ensures) (k .settle .ensures))
-
-same-length : tie.Need-same-length Inv-loop μ-loop
-same-length c = c .before .loop .inv .1 .within .same
 
 returns : tie.Need-returns Inv-loop μ-loop
 returns c =
@@ -59,16 +47,5 @@ returns c =
 
 pub merge-spec : {M : Type 1} → statement M
 merge-spec =
-    tie.close
-    (tie.spec
-    Inv-loop
-    μ-loop
-    loop-holds
-    mul-read-term
-    read-term-requires
-    settle-requires
-    add-i
-    loop-less
-    loop-again
-    same-length
-    returns)
+    tie.close (tie.spec Inv-loop μ-loop loop-holds (λ c. search needs) read-term-requires settle-requires (λ c. search needs)
+    (λ c. search needs) loop-again (λ c. c .before .loop .inv .1 .within .same) returns)

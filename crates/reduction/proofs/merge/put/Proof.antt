@@ -5,34 +5,10 @@ use Rattle.reduction.proofs.Merging.{put-zero, put-one}
 use Rattle.reduction.proofs.merge.put.Statement.{statement}
 use Rattle.reduction.proofs.merge.put.Tie as tie
 
-array-read-cut : tie.Need-array-read-cut
-array-read-cut c = search needs
-
-cut-requires : tie.Need-cut-requires
-cut-requires c κs = search needs
-
 returns : tie.Need-returns
 returns c =
     let a = c .before .before .before .args in
     put-zero (a .k) (a .n) (a .s .now) (a .t3) _ (c .before .cut .ensures) (c .if1 .taken)
-
-set-of-requires : tie.Need-set-of-requires
-set-of-requires c κs = search needs
-
-term-of-requires : tie.Need-term-of-requires
-term-of-requires c κs = search needs
-
-mul-write-term : tie.Need-mul-write-term
-mul-write-term c = search needs
-
-write-term-requires : tie.Need-write-term-requires
-write-term-requires c κs = search needs
-
-add-result : tie.Need-add-result
-add-result c = search needs
-
-same-length : tie.Need-same-length
-same-length c = search needs
 
 returns-2 : tie.Need-returns-2
 returns-2 c =
@@ -45,15 +21,5 @@ returns-2 c =
 
 pub put-spec : {M : Type 1} → statement M
 put-spec =
-    tie.close
-    (tie.spec
-    array-read-cut
-    cut-requires
-    returns
-    set-of-requires
-    term-of-requires
-    mul-write-term
-    write-term-requires
-    add-result
-    same-length
-    returns-2)
+    tie.close (tie.spec (λ c. search needs) (λ c κs. search needs) returns (λ c κs. search needs) (λ c κs. search needs) (λ c. search needs)
+    (λ c κs. search needs) (λ c. search needs) (λ c. search needs) returns-2)
