@@ -6,9 +6,8 @@ pub mod Heaps
 pub mod Sifting
 pub mod Draining
 pub mod Sliding
-pub mod Settling
-pub mod Merging
 pub mod Places
 pub mod Passes
 pub mod Gathering
+pub mod Merging
 pub mod Decided

@@ -1,36 +1,38 @@
--- Reducing a run in falling order, in its words: a term put behind, a term settled, all terms. Assumes nothing.
-use mathlib.Core.Path.{_≡_, refl, sym, ap, ap₂, subst, _∙_}
-use mathlib.Core.Bool.{Bool, true, false}
+-- Reducing a run in falling order, in its words: a term put behind, and all terms. Assumes nothing.
+use mathlib.Core.Path.{_≡_, refl, sym, ap, ap₂, _∙_}
+use mathlib.Core.Bool.{Bool, true, false, cond}
 use mathlib.Core.List.{List, [], _∷_, _++_, append-nil, append-assoc}
-use Prim.Native.Nat.{ℕ, _+_, _-_, _*_, _%_, _^_, _≤_, _<_}
+use Prim.Native.Nat.{ℕ, suc, _+_, _-_, _*_, _%_, _^_, _≤_, _<_}
 use native.Mathlib.Omega.{arith}
 use lib.Dec.{eqb}
-use lib.ListN.{length, getD, take, drop}
+use lib.ListN.{length, getD, drop, drop-of-length-le}
 use lib.Seq.{paste}
-use borrow.Author.Tests.{eq-eqb, ne-eqb}
+use borrow.Author.Tests.{eqb-true, eq-eqb, ne-eqb}
 use Rattle.limits.specs.Limits.{setWords, termWords}
-use Rattle.algebra.specs.Polynomial.{Term, Poly, equal, put, reduce}
+use Rattle.algebra.specs.Polynomial.{Term, Poly, equal, put, reduce, Below}
 use Rattle.words.specs.Parts.{part, Within}
 use Rattle.words.proofs.Parts.{within-refl, within-trans, within-wider, above-kept}
-use Rattle.terms.specs.Terms.{termOf, none, decode, Leaves}
-use Rattle.terms.proofs.Decode.{decode-length, decode-at, decode-take, decode-last, decode-above, behind-within, decode-behind}
-use Rattle.terms.proofs.Rounding.{put-word}
-use Rattle.reduction.specs.Order.{Falls}
-use Rattle.reduction.specs.Steps.{Sorted, settle}
-use Rattle.reduction.proofs.Settling.{reduce-order, reduce-more, settle-last}
+use Rattle.terms.specs.Terms.{termOf, decode, Leaves}
+use Rattle.terms.proofs.Decode.{decode-length, decode-rest, decode-above, behind-within, decode-behind}
+use Rattle.reduction.specs.Order.{setAt, Falls}
+use Rattle.reduction.specs.Steps.{Sorted}
+use Rattle.reduction.specs.Places.{Descends, gatheredTo, gathered}
+use Rattle.reduction.proofs.Reordered.{reduce-order}
+use Rattle.reduction.proofs.Arranged.{set-read}
+use Rattle.reduction.proofs.Gathering.{gathered-reduce}
 
 -- ---- a term put behind n terms, or left away
-module _ (k n : ℕ) (s t : List ℕ) (c : ℕ) (ec : c ≡ getD t setWords 0 % 2 ^ k) where
-  pub put-zero : c ≡ 0 → Leaves (n + 1) (decode n s ++ put k (termOf t .set) (termOf t .coef) []) s s n
-  unfolding put termOf
-  put-zero z = record { terms = rw (eq-eqb (getD t setWords 0 % 2 ^ k) 0 (sym ec ∙ z)) (sym (append-nil (decode n s))); few = omega arith; within = within-refl }
+module _ (k n : ℕ) (s t : List ℕ) (c d : ℕ) (ed : d ≡ c % 2 ^ k) where
+  pub put-zero : d ≡ 0 → Leaves (n + 1) (decode n s ++ put k (termOf t .set) c []) s s n
+  unfolding put
+  put-zero z = record { terms = rw (eq-eqb (c % 2 ^ k) 0 (sym ed ∙ z)) (sym (append-nil (decode n s))); few = omega arith; within = within-refl }
 
-  pub put-one : (a : ℕ) (u r : List ℕ) → (c ≡ 0 → ⊥) → (n + 1) * termWords ≤ length s → a ≡ termOf t .set → length u ≡ termWords → termOf u ≡ record { set = a; coef = c }
-      → r ≡ paste s (n * termWords) u termWords → Leaves (n + 1) (decode n s ++ put k (termOf t .set) (termOf t .coef) []) s r (n + 1)
-  unfolding put termOf
+  pub put-one : (a : ℕ) (u r : List ℕ) → (d ≡ 0 → ⊥) → (n + 1) * termWords ≤ length s → a ≡ termOf t .set → length u ≡ termWords → termOf u ≡ record { set = a; coef = d }
+      → r ≡ paste s (n * termWords) u termWords → Leaves (n + 1) (decode n s ++ put k (termOf t .set) c []) s r (n + 1)
+  unfolding put
   put-one a u r z l ea lu eu er = record {
     terms = decode-behind 0 n s u r (omega arith) lu er0 ∙ ap (λ (x : Term). decode n s ++ (x ∷ [])) (eu ∙ new)
-        ∙ rw (ne-eqb (getD t setWords 0 % 2 ^ k) 0 (λ e. z (ec ∙ e)));
+        ∙ rw (ne-eqb (c % 2 ^ k) 0 (λ e. z (ed ∙ e)));
     few = omega arith;
     within = within-wider 0 (0 + n * termWords) (0 + n * termWords + termWords) ((n + 1) * termWords) s r (omega arith) (omega arith) (behind-within 0 n s u r (omega arith) lu er0);
   }
@@ -38,75 +40,97 @@ module _ (k n : ℕ) (s t : List ℕ) (c : ℕ) (ec : c ≡ getD t setWords 0 % 
       er0 : r ≡ paste s (0 + n * termWords) u termWords
       er0 = let e : n * termWords ≡ 0 + n * termWords = omega arith in er ∙ ap (λ (w : ℕ). paste s w u termWords) e
 
-      new : _≡_ {A = Term} (record { set = a; coef = c }) (record { set = termOf t .set; coef = getD t setWords 0 % 2 ^ k })
-      new = λ i. record { set = ea i; coef = ec i }
+      new : _≡_ {A = Term} (record { set = a; coef = d }) (record { set = termOf t .set; coef = c % 2 ^ k })
+      new = λ i. record { set = ea i; coef = ed i }
 
--- ---- a term settled behind n terms
-leaves-eq : {n m : ℕ} {p q : Poly} {s r : List ℕ} → p ≡ q → Leaves n p s r m → Leaves n q s r m
-leaves-eq e h = record { terms = h .terms ∙ e; few = h .few; within = h .within }
+put-behind : (k m c : ℕ) (q : Poly) → put k m c q ≡ put k m c [] ++ q
+unfolding put
+put-behind k m c q = go (eqb (c % 2 ^ k) 0)
+  where
+    go : (b : Bool) → cond b q (record { set = m; coef = c % 2 ^ k } ∷ q) ≡ cond b [] (record { set = m; coef = c % 2 ^ k } ∷ []) ++ q
+    go true = refl
+    go false = refl
 
-module _ (k n : ℕ) (s t : List ℕ) where
-  pub settle-first : (r : List ℕ) (m : ℕ) → n ≡ 0 → Leaves (n + 1) (decode n s ++ put k (termOf t .set) (termOf t .coef) []) s r m
-      → Leaves (n + 1) (settle k (termOf t) (decode n s)) s r m
-  unfolding settle decode
-  settle-first r m e h = leaves-eq (subst (λ (i : ℕ). decode i s ++ put k (termOf t .set) (termOf t .coef) [] ≡ settle k (termOf t) (decode i s)) (sym e) refl) h
+-- ---- a run whose sets fall, term by term
+below-at : (b : ℕ) (p : Poly) → ((j : ℕ) → j < length p → setAt p j < b) → Below b p
+below-at b [] h = tt
+below-at b (t ∷ p) h = (h 0 (omega arith), below-at b p (λ j l. h (suc j) (omega arith)))
 
-  -- u is the last of the n terms, and b tells whether its set is that of t
-  module _ (h : 0 < n) (u : List ℕ) (b : Bool) (eu : u ≡ part ((n - 1) * termWords) termWords s) (eb : b ≡ eqb (termOf t .set) (termOf u .set)) where
-    back : n - 1 + 1 ≡ n
-    back = omega arith
-
-    run : decode n s ≡ decode (n - 1) s ++ (termOf u ∷ [])
-    run = ap (λ (i : ℕ). decode i s) (sym back) ∙ decode-last (n - 1) s ∙ ap (λ (w : List ℕ). decode (n - 1) s ++ (termOf w ∷ [])) (sym eu)
-
-    settled : settle k (termOf t) (decode n s) ≡ decode (n - 1) s ++ settle k (termOf t) (termOf u ∷ [])
-    settled = ap (settle k (termOf t)) run ∙ settle-last k (termOf t) (decode (n - 1) s) (termOf u)
-
-    pub settle-apart : (r : List ℕ) (m : ℕ) → b ≡ false → Leaves (n + 1) (decode n s ++ put k (termOf t .set) (termOf t .coef) []) s r m
-        → Leaves (n + 1) (settle k (termOf t) (decode n s)) s r m
-    unfolding settle
-    settle-apart r m e h =
-        leaves-eq (sym (settled ∙ rw (sym eb ∙ e) (sym (ap (λ (p : Poly). p ++ put k (termOf t .set) (termOf t .coef) []) run
-        ∙ append-assoc (decode (n - 1) s) (termOf u ∷ []) (put k (termOf t .set) (termOf t .coef) []))))) h
-
-    -- the sum of the two, v, in the place of u
-    pub settle-join : (a c : ℕ) (v r : List ℕ) (m : ℕ) → k ≤ 64 → b ≡ true → a ≡ termOf t .set → c ≡ (getD t setWords 0 + getD u setWords 0) % 2 ^ 64
-        → termOf v ≡ record { set = a; coef = c } → Leaves (n - 1 + 1) (decode (n - 1) s ++ put k (termOf v .set) (termOf v .coef) []) s r m
-        → Leaves (n + 1) (settle k (termOf t) (decode n s)) s r m
-    unfolding settle termOf
-    settle-join a c v r m k64 e ea ec ev h = record {
-      terms = h .terms ∙ ap (λ (x : Term). decode (n - 1) s ++ put k (x .set) (x .coef) []) (ev ∙ new)
-          ∙ ap (λ (p : Poly). decode (n - 1) s ++ p) (put-word k k64 (termOf t .set) (getD t setWords 0 + getD u setWords 0) [])
-          ∙ sym (settled ∙ rw (sym eb ∙ e));
-      few = omega (arith, h .few);
-      within = within-wider 0 0 ((n - 1 + 1) * termWords) ((n + 1) * termWords) s r (omega arith) (omega arith) (h .within);
-    }
-      where
-        new : _≡_ {A = Term} (record { set = a; coef = c }) (record { set = termOf t .set; coef = (getD t setWords 0 + getD u setWords 0) % 2 ^ 64 })
-        new = λ i. record { set = ea i; coef = ec i }
+descends : (p : Poly) → ((j c : ℕ) → j < c → c < length p → setAt p c ≤ setAt p j) → Descends p
+descends [] f = tt
+descends (t ∷ p) f = (below-at (suc (t .set)) p (λ j l. omega (arith, f 0 (suc j) (omega arith) (omega arith))), descends p (λ j c a l. f (suc j) (suc c) (omega arith) (omega arith)))
 
 -- ---- all terms
-pub merge-start : (k n : ℕ) (s : List ℕ) → Leaves 0 (reduce k (take 0 (decode n s))) s s 0
+-- how far a merge has come: the first terms, then c at the set of the i-th with the terms after it
+pub record Summing (k n : ℕ) (s x : List ℕ) (c left i : ℕ) : Type 0 where
+  pub few : left ≤ i
+  pub inside : i < n
+  pub within : Within 0 (i * termWords) s x
+  pub rest : gathered k (decode n s) ≡ decode left x ++ gatheredTo k (setAt (decode n s) i) c (drop (i + 1) (decode n s))
+
+pub summing-none : (k : ℕ) {n : ℕ} {s : List ℕ} → n ≡ 0 → Leaves n (reduce k (decode n s)) s s 0
 unfolding decode reduce
-merge-start k n s = record { terms = refl; few = omega arith; within = within-refl }
+summing-none k {n} {s} e = record { terms = sym (ap (λ (m : ℕ). reduce k (decode m s)) e); few = omega arith; within = within-refl }
 
-pub merge-more : (k n i left m : ℕ) (s x t r : List ℕ) → Falls 1 (decode n s) → i < n → Leaves i (reduce k (take i (decode n s))) s x left
-    → t ≡ part (i * termWords) termWords x → Leaves (left + 1) (settle k (termOf t) (decode left x)) x r m
-    → Leaves (i + 1) (reduce k (take (i + 1) (decode n s))) s r m
-merge-more k n i left m s x t r f h a et b = record {
-  terms = b .terms ∙ ap₂ (settle k) at-i (a .terms) ∙ reduce-more k (decode n s) i f (omega (arith, decode-length n s));
-  few = omega (arith, a .few, b .few);
-  within = within-trans (within-wider 0 0 (i * termWords) ((i + 1) * termWords) s x (omega arith) (omega arith) (a .within))
-      (within-wider 0 0 ((left + 1) * termWords) ((i + 1) * termWords) x r (omega arith) (omega (arith, a .few)) (b .within));
-}
+pub summing-start : {k n : ℕ} {s : List ℕ} → 0 < n → Summing k n s s (getD s setWords 0) 0 0
+unfolding decode gathered termOf
+summing-start {k} {n} {s} h = record { few = omega arith; inside = h; within = within-refl; rest = rw e }
   where
-    at-i : termOf t ≡ getD (decode n s) i none
-    at-i = ap termOf (et ∙ above-kept 0 (i * termWords) s x (a .within) (i * termWords) termWords (omega arith)) ∙ sym (decode-at n i s h)
+    e : n ≡ suc (n - 1)
+    e = omega arith
 
-pub merge-end : (k n i left : ℕ) (s x : List ℕ) → i ≤ n → n ≤ i → Leaves i (reduce k (take i (decode n s))) s x left → Leaves n (reduce k (decode n s)) s x left
-merge-end k n i left s x h l a =
-    let e : i ≡ n = omega arith in
-    leaves-eq (ap (reduce k) (decode-take n n s (omega arith))) (subst (λ (j : ℕ). Leaves j (reduce k (take j (decode n s))) s x left) e a)
+module _ {k n : ℕ} {s x t : List ℕ} {c left i : ℕ} (a : Summing k n s x c left i) (et : t ≡ part (i * termWords) termWords x) where
+  -- as the words behind stand, so does the i-th term
+  kept : (j : ℕ) → i ≤ j → part (j * termWords) termWords x ≡ part (j * termWords) termWords s
+  kept j h = above-kept 0 (i * termWords) s x (a .within) (j * termWords) termWords (omega arith)
+
+  rest-t : gathered k (decode n s) ≡ decode left x ++ gatheredTo k (termOf t .set) c (drop (i + 1) (decode n s))
+  rest-t = a .rest ∙ ap (λ (m : ℕ). decode left x ++ gatheredTo k m c (drop (i + 1) (decode n s))) (set-read n i s t (a .inside) (et ∙ kept i (omega arith)))
+
+  -- u is the next term, and b tells whether it has the set of t
+  module _ {u : List ℕ} {b : Bool} (h : i + 1 < n) (eu : u ≡ part ((i + 1) * termWords) termWords x) (eb : b ≡ eqb (termOf t .set) (termOf u .set)) where
+    next : drop (i + 1) (decode n s) ≡ termOf u ∷ drop (i + 1 + 1) (decode n s)
+    next = decode-rest n (i + 1) s u h (eu ∙ kept (i + 1) (omega arith))
+
+    here : termOf u .set ≡ setAt (decode n s) (i + 1)
+    here = sym (set-read n (i + 1) s u h (eu ∙ kept (i + 1) (omega arith)))
+
+    wider : Within 0 ((i + 1) * termWords) s x
+    wider = within-wider 0 0 (i * termWords) ((i + 1) * termWords) s x (omega arith) (omega arith) (a .within)
+
+    pub summing-same : {d : ℕ} → b ≡ true → d ≡ (c + getD u setWords 0) % 2 ^ 64 → Summing k n s x d left (i + 1)
+    unfolding gatheredTo termOf
+    summing-same f e = record {
+      few = omega (arith, a .few);
+      inside = h;
+      within = wider;
+      rest = rest-t ∙ ap (λ (p : Poly). decode left x ++ gatheredTo k (termOf t .set) c p) next ∙ rw (sym eb ∙ f)
+          (ap₂ (λ (m d : ℕ). decode left x ++ gatheredTo k m d (drop (i + 1 + 1) (decode n s))) (eqb-true (termOf t .set) (termOf u .set) (sym eb ∙ f) ∙ here) (sym e));
+    }
+
+    pub summing-other : {r : List ℕ} {m : ℕ} → b ≡ false → Leaves (left + 1) (decode left x ++ put k (termOf t .set) c []) x r m
+        → Summing k n s r (getD u setWords 0) m (i + 1)
+    unfolding gatheredTo termOf
+    summing-other {r} {m} f l = record {
+      few = omega (arith, a .few, l .few);
+      inside = h;
+      within = within-trans wider (within-wider 0 0 ((left + 1) * termWords) ((i + 1) * termWords) x r (omega arith) (omega (arith, a .few)) (l .within));
+      rest = let q = gatheredTo k (termOf u .set) (getD u setWords 0) (drop (i + 1 + 1) (decode n s)) in
+          rest-t ∙ ap (λ (p : Poly). decode left x ++ gatheredTo k (termOf t .set) c p) next ∙ rw (sym eb ∙ f)
+          (ap (λ (p : Poly). decode left x ++ p) (put-behind k (termOf t .set) c q) ∙ sym (append-assoc (decode left x) (put k (termOf t .set) c []) q)
+          ∙ ap₂ (λ (p : Poly) (d : ℕ). p ++ gatheredTo k d (getD u setWords 0) (drop (i + 1 + 1) (decode n s))) (sym (l .terms)) here);
+    }
+
+  pub summing-end : {r : List ℕ} {m : ℕ} → k ≤ 64 → Falls 1 (decode n s) → n ≤ i + 1 → Leaves (left + 1) (decode left x ++ put k (termOf t .set) c []) x r m
+      → Leaves n (reduce k (decode n s)) s r m
+  unfolding gatheredTo
+  summing-end {r} k64 f h l = record {
+    terms = l .terms ∙ sym (rest-t ∙ ap (λ (p : Poly). decode left x ++ gatheredTo k (termOf t .set) c p) (drop-of-length-le (decode n s) {i = i + 1} (omega (arith, decode-length n s))))
+        ∙ gathered-reduce k k64 (decode n s) (descends (decode n s) (λ j d jd dn. f .after j d jd (omega arith) dn));
+    few = omega (arith, a .few, a .inside, l .few);
+    within = within-trans (within-wider 0 0 (i * termWords) (n * termWords) s x (omega arith) (omega (arith, a .inside)) (a .within))
+        (within-wider 0 0 ((left + 1) * termWords) (n * termWords) x r (omega arith) (omega (arith, a .few, a .inside)) (l .within));
+  }
 
 -- sorted, then merged
 pub reduced : (k n m : ℕ) (s x r : List ℕ) → Sorted n s x → Leaves n (reduce k (decode n x)) x r m → Leaves n (reduce k (decode n s)) s r m

@@ -4,7 +4,7 @@ use mathlib.Core.Bool.{Bool, true, false}
 use mathlib.Core.List.{[], _∷_, _++_}
 use Prim.Native.Nat.{ℕ, _%_, _^_, _≤_}
 use Rattle.ground.proofs.Congruence.{Same, same-refl, same-add}
-use Rattle.algebra.specs.Polynomial.{Poly, sumIf, put, reduce}
+use Rattle.algebra.specs.Polynomial.{Poly, sumIf, reduce}
 use Rattle.algebra.proofs.Values.{keep}
 use Rattle.algebra.proofs.Sums.{reduce-sums}
 use Rattle.words.proofs.Wrap.{cut-cut}
@@ -29,7 +29,3 @@ module _ (k : ℕ) (h : k ≤ 64) where
   -- reducing does not see the rounding
   pub reduce-rounded : (p : Poly) → reduce k (rounded p) ≡ reduce k p
   reduce-rounded p = reduce-sums k (rounded p) p (λ f. sum-rounded f p)
-
-  pub put-word : (m c : ℕ) (p : Poly) → put k m (c % 2 ^ 64) p ≡ put k m c p
-  unfolding put
-  put-word m c p = rw (cut-cut k h c)

@@ -8,7 +8,7 @@ use Rattle.reduction.proofs.merge.put.Tie as tie
 returns : tie.Need-returns
 returns c =
     let a = c .before .before .before .args in
-    put-zero (a .k) (a .n) (a .s .now) (a .t3) _ (c .before .cut .ensures) (c .if1 .taken)
+    put-zero (a .k) (a .n) (a .s .now) (a .t) (a .c) _ (c .before .cut .ensures) (c .if1 .taken)
 
 returns-2 : tie.Need-returns-2
 returns-2 c =
@@ -17,9 +17,9 @@ returns-2 c =
     let d = m .before in
     let e = d .before in
     let a = e .before .before .before .args in
-    put-one (a .k) (a .n) (a .s .now) (a .t3) _ (e .before .cut .ensures) _ _ _ (e .if1 .left) (omega arith) (d .set-of .ensures) (search needs) (m .term-of .ensures) (w .write-term .ensures)
+    put-one (a .k) (a .n) (a .s .now) (a .t) (a .c) _ (e .before .cut .ensures) _ _ _ (e .if1 .left) (omega arith) (d .set-of .ensures) (search needs) (m .term-of .ensures) (w .write-term .ensures)
 
 pub put-spec : {M : Type 1} → statement M
 put-spec =
-    tie.close (tie.spec (λ c. search needs) (λ c κs. search needs) returns (λ c κs. search needs) (λ c κs. search needs) (λ c. search needs)
+    tie.close (tie.spec (λ c κs. search needs) returns (λ c κs. search needs) (λ c κs. search needs) (λ c. search needs)
     (λ c κs. search needs) (λ c. search needs) (λ c. search needs) returns-2)
