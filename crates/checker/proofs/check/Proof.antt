@@ -5,44 +5,20 @@ use borrow.Author.Needs.{needs}
 use Rattle.checker.proofs.check.Statement.{statement}
 use Rattle.checker.proofs.check.Tie as tie
 
-unread-requires : tie.Need-unread-requires
-unread-requires c κs = search needs
-
 returns : tie.Need-returns
 returns c = checked-pool (c .before .if1 .taken) (c .unread .ensures)
-
-unread-requires-2 : tie.Need-unread-requires-2
-unread-requires-2 c κs = search needs
 
 returns-2 : tie.Need-returns-2
 returns-2 c = checked-scratch (c .before .before .if1 .left) (c .before .if2 .taken) (c .unread2 .ensures)
 
-unread-requires-3 : tie.Need-unread-requires-3
-unread-requires-3 c κs = search needs
-
 returns-3 : tie.Need-returns-3
 returns-3 c = checked-text (c .before .before .before .if1 .left) (c .before .before .if2 .left) (c .before .if3 .taken) (c .unread3 .ensures)
-
-capacity-requires : tie.Need-capacity-requires
-capacity-requires c κs = search needs
 
 run-requires : tie.Need-run-requires
 run-requires c κs =
     let n = length (c .before .before .before .before .before .before .before .before .before .args .pool .now) in
     let e = c .before .before .capacity .ensures in
     (c .before .before .before .if3 .left, capacity-words n e, capacity-fits n e, c .before .before .before .before .if2 .left)
-
-zero-requires : tie.Need-zero-requires
-zero-requires c κs = search needs
-
-zero-requires-2 : tie.Need-zero-requires-2
-zero-requires-2 c κs = search needs
-
-same-length : tie.Need-same-length
-same-length c = search needs
-
-same-length-2 : tie.Need-same-length-2
-same-length-2 c = search needs
 
 returns-4 : tie.Need-returns-4
 returns-4 c =
@@ -52,18 +28,5 @@ returns-4 c =
 
 pub check-spec : {M : Type 1} → statement M
 check-spec =
-    tie.close
-    (tie.spec
-    unread-requires
-    returns
-    unread-requires-2
-    returns-2
-    unread-requires-3
-    returns-3
-    capacity-requires
-    run-requires
-    zero-requires
-    zero-requires-2
-    same-length
-    same-length-2
-    returns-4)
+    tie.close (tie.spec (λ c κs. search needs) returns (λ c κs. search needs) returns-2 (λ c κs. search needs) returns-3
+    (λ c κs. search needs) run-requires (λ c κs. search needs) (λ c κs. search needs) (λ c. search needs) (λ c. search needs) returns-4)

@@ -5,25 +5,12 @@ use Rattle.lpac_host.proofs.Hosting.{hosted-long, hosted-checked}
 use Rattle.lpac_host.proofs.host_answer.Statement.{statement}
 use Rattle.lpac_host.proofs.host_answer.Tie as tie
 
-unread-requires : tie.Need-unread-requires
-unread-requires c κs = search needs
-
 returns : tie.Need-returns
 returns c = hosted-long (c .before .before .before .args .text .now) (c .before .if1 .taken) (c .unread .ensures)
-
-slice-aggregate-check : tie.Need-slice-aggregate-check
-slice-aggregate-check c = search needs
-
-slice-aggregate-check-2 : tie.Need-slice-aggregate-check-2
-slice-aggregate-check-2 c = search needs
-
-check-requires : tie.Need-check-requires
-check-requires c κs = search needs
 
 returns-2 : tie.Need-returns-2
 returns-2 c = hosted-checked (c .before .before .before .before .before .before .before .args .text .now) (c .before .before .before .before .before .if1 .left) refl refl (c .before .before .check .ensures)
 
 pub host-answer-spec : {M : Type 1} → statement M
 host-answer-spec =
-    tie.close
-    (tie.spec unread-requires returns slice-aggregate-check slice-aggregate-check-2 check-requires returns-2)
+    tie.close (tie.spec (λ c κs. search needs) returns (λ c. search needs) (λ c. search needs) (λ c κs. search needs) returns-2)

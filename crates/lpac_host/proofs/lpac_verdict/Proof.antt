@@ -5,9 +5,6 @@ use Rattle.lpac_host.proofs.Hosting.{answer-bounds, answer-number}
 use Rattle.lpac_host.proofs.lpac_verdict.Statement.{statement}
 use Rattle.lpac_host.proofs.lpac_verdict.Tie as tie
 
-host-answer-requires : tie.Need-host-answer-requires
-host-answer-requires c κs = search needs
-
 mul-result : tie.Need-mul-result
 mul-result c =
     let b = answer-bounds (c .before .before .before .args .text .now) (c .before .host-answer .ensures) in
@@ -22,5 +19,4 @@ returns : tie.Need-returns
 returns c = answer-number (c .before .before .before .before .args .text .now) (c .before .before .host-answer .ensures)
 
 pub lpac-verdict-spec : {M : Type 1} → statement M
-lpac-verdict-spec =
-    tie.close (tie.spec host-answer-requires mul-result add-result returns)
+lpac-verdict-spec = tie.close (tie.spec (λ c κs. search needs) mul-result add-result returns)

@@ -16,14 +16,8 @@ Inv-loop text pool₀ scratch₀ capacity state₀ at₀ pool scratch state at =
 abbrev μ-loop : tie.MeasureT-loop
 μ-loop text pool₀ scratch₀ capacity state₀ at₀ pool scratch state at = length text + 1 - at
 
-new-requires : tie.Need-new-requires Inv-loop μ-loop
-new-requires c κs = search needs
-
 loop-holds : tie.Need-loop-holds Inv-loop μ-loop
 loop-holds c = let p = c .before .before .before .before .pre in (onward-start (c .new .ensures) (p .1) (p .2) (p .3), refl, refl)
-
-line-end-requires : tie.Need-line-end-requires Inv-loop μ-loop
-line-end-requires c κs = search needs
 
 sub-judge-line : tie.Need-sub-judge-line Inv-loop μ-loop
 sub-judge-line c = let h = c .line-end .ensures .onward in omega arith
@@ -120,12 +114,6 @@ returns c =
 ending-requires : tie.Need-ending-requires Inv-loop μ-loop
 ending-requires c κs = c .before .loop .inv .0 .ready .fitting .packed
 
-same-length-3 : tie.Need-same-length-3 Inv-loop μ-loop
-same-length-3 c = c .before .before .loop .inv .1
-
-same-length-4 : tie.Need-same-length-4 Inv-loop μ-loop
-same-length-4 c = c .before .before .loop .inv .2
-
 returns-2 : tie.Need-returns-2 Inv-loop μ-loop
 returns-2 c =
     let o = c .before .before .loop .inv in
@@ -133,31 +121,7 @@ returns-2 c =
 
 pub run-spec : {M : Type 1} → statement M
 run-spec =
-    tie.close
-    (tie.spec
-    Inv-loop
-    μ-loop
-    new-requires
-    loop-holds
-    line-end-requires
-    sub-judge-line
-    part-judge-line-start
-    part-judge-line-end
-    judge-line-requires
-    sub-refused-index
-    part-refused-index-start
-    part-refused-index-end
-    refused-index-requires
-    add-n
-    report-requires
-    same-length
-    same-length-2
-    returns
-    add-state
-    add-at
-    loop-less
-    loop-again
-    ending-requires
-    same-length-3
-    same-length-4
-    returns-2)
+    tie.close (tie.spec Inv-loop μ-loop (λ c κs. search needs) loop-holds (λ c κs. search needs) sub-judge-line part-judge-line-start
+    part-judge-line-end judge-line-requires sub-refused-index part-refused-index-start part-refused-index-end refused-index-requires add-n
+    report-requires same-length same-length-2 returns add-state add-at loop-less loop-again ending-requires
+    (λ c. c .before .before .loop .inv .1) (λ c. c .before .before .loop .inv .2) returns-2)
