@@ -133,8 +133,8 @@ module _ {k n : ℕ} {s x t : List ℕ} {c left i : ℕ} (a : Summing k n s x c 
   }
 
 -- sorted, then merged
-pub reduced : (k n m : ℕ) (s x r : List ℕ) → Sorted n s x → Leaves n (reduce k (decode n x)) x r m → Leaves n (reduce k (decode n s)) s r m
-reduced k n m s x r a b = record {
+pub reduced : (k : ℕ) {n m : ℕ} {s x r : List ℕ} → Sorted n s x → Leaves n (reduce k (decode n x)) x r m → Leaves n (reduce k (decode n s)) s r m
+reduced k {n} {m} {s} {x} a b = record {
   terms = b .terms ∙ sym (reduce-order k (decode n s) (decode n x) (a .arranged .same));
   few = b .few;
   within = within-trans (a .arranged .within) (b .within);
