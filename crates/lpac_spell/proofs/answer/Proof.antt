@@ -7,15 +7,9 @@ use Rattle.lpac_spell.proofs.Asking.{asks-inside, spelled-inside}
 use Rattle.lpac_spell.proofs.answer.Statement.{statement}
 use Rattle.lpac_spell.proofs.answer.Tie as tie
 
+-- serves twice: for the length of the field, and as the start of its part
 sub-spell : tie.Need-sub-spell
 sub-spell c =
-    let a = c .before .before .before .before .before .before .before .args in
-    let k = c .before .before .before .asks in
-    let g = c .before .a .given in
-    asks-inside (a .line .now) (k .result) (g .0 .0) (g .0 .1 .0) (g .1) (k .ensures)
-
-part-spell-start : tie.Need-part-spell-start
-part-spell-start c =
     let a = c .before .before .before .before .before .before .before .args in
     let k = c .before .before .before .asks in
     let g = c .before .a .given in
@@ -34,5 +28,5 @@ slice-aggregate-say-2 c =
 pub answer-spec : {M : Type 1} → statement M
 answer-spec =
     tie.close (tie.spec (λ c κs. search needs) (λ c. search needs) (λ c. search needs) (λ c. search needs) (λ c κs. search needs)
-    (λ c. search needs) sub-spell part-spell-start (λ c. search needs) (λ c κs. search needs) slice-reshare-prefix-say slice-aggregate-say-2
+    (λ c. search needs) sub-spell sub-spell (λ c. search needs) (λ c κs. search needs) slice-reshare-prefix-say slice-aggregate-say-2
     (λ c κs. search needs) (λ c. search needs) (λ c. search needs) (λ c. search needs))

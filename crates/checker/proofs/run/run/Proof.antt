@@ -19,11 +19,9 @@ abbrev μ-loop : tie.MeasureT-loop
 loop-holds : tie.Need-loop-holds Inv-loop μ-loop
 loop-holds c = let p = c .before .before .before .before .pre in (onward-start (c .new .ensures) (p .1) (p .2) (p .3), refl, refl)
 
+-- that a line's end is not before its start serves twice: for its length, and as the start of its part
 sub-judge-line : tie.Need-sub-judge-line Inv-loop μ-loop
 sub-judge-line c = let h = c .line-end .ensures .onward in omega arith
-
-part-judge-line-start : tie.Need-part-judge-line-start Inv-loop μ-loop
-part-judge-line-start c = let h = c .line-end .ensures .onward in omega arith
 
 part-judge-line-end : tie.Need-part-judge-line-end Inv-loop μ-loop
 part-judge-line-end c = let h = c .line-end .ensures .inside in omega arith
@@ -66,9 +64,6 @@ loop-again c =
 -- a line that is refused
 sub-refused-index : tie.Need-sub-refused-index Inv-loop μ-loop
 sub-refused-index c = let h = c .before .before .before .before .before .before .before .before .before .before .line-end .ensures .onward in omega arith
-
-part-refused-index-start : tie.Need-part-refused-index-start Inv-loop μ-loop
-part-refused-index-start c = let h = c .before .before .before .before .before .before .before .before .before .before .line-end .ensures .onward in omega arith
 
 part-refused-index-end : tie.Need-part-refused-index-end Inv-loop μ-loop
 part-refused-index-end c = let h = c .before .before .before .before .before .before .before .before .before .before .line-end .ensures .inside in omega arith
@@ -121,7 +116,7 @@ returns-2 c =
 
 pub run-spec : {M : Type 1} → statement M
 run-spec =
-    tie.close (tie.spec Inv-loop μ-loop (λ c κs. search needs) loop-holds (λ c κs. search needs) sub-judge-line part-judge-line-start
-    part-judge-line-end judge-line-requires sub-refused-index part-refused-index-start part-refused-index-end refused-index-requires add-n
+    tie.close (tie.spec Inv-loop μ-loop (λ c κs. search needs) loop-holds (λ c κs. search needs) sub-judge-line sub-judge-line
+    part-judge-line-end judge-line-requires sub-refused-index sub-refused-index part-refused-index-end refused-index-requires add-n
     report-requires same-length same-length-2 returns add-state add-at loop-less loop-again ending-requires
     (λ c. c .before .before .loop .inv .1) (λ c. c .before .before .loop .inv .2) returns-2)
