@@ -4,19 +4,19 @@ use mathlib.Core.Bool.{Bool, true, _||_, not}
 use mathlib.Core.List.{List, [], _∷_}
 use Prim.Native.Nat.{ℕ, suc, _/_, _*_, _≤_, _<_}
 use native.Mathlib.Omega.{arith}
-use lib.Dec.{eqb, ltb}
+use lib.Dec.{eqb}
 use lib.ListN.{length, replicate}
 use borrow.Author.Tests.{lt-ltb, le-ltb, not-true}
 use Rattle.ground.specs.Lists.{every}
 use Rattle.ground.proofs.Tests.{and-left, and-right, by-cond}
-use Rattle.limits.specs.Limits.{textBytes, lineBytes, leastPool, leastScratch, mostPoolTerms, termWords}
+use Rattle.limits.specs.Limits.{textBytes, leastPool, leastScratch, mostPoolTerms, termWords}
 use Rattle.limits.specs.Verdicts.{SHORT, LONGTEXT, FORM}
 use Rattle.paper.specs.Rules.{first, steps, start, rules}
-use Rattle.paper.specs.Grammar.{Bytes, Line, lines, Read, got, stuck, statement}
+use Rattle.paper.specs.Grammar.{Bytes, Read, got, stuck}
 use Rattle.paper.specs.Statement.{Statement}
 use Rattle.paper.specs.Rules as paper
 use Rattle.paper.specs.Answer as answers
-use Rattle.paper.specs.Answer.{Outcome, stands, refused, judge, judgeLine, report, ending, run, capacityOf, unread, answer, roomAfter}
+use Rattle.paper.specs.Answer.{Outcome, stands, refused, judge, Item, judgeItem, items, report, ending, run, capacityOf, unread, answer, roomAfter}
 use Rattle.checker.specs.declared.answer.Answer.{Answer}
 use Rattle.checker.specs.Checked.{answerOf, Ran, Checked}
 
@@ -46,9 +46,9 @@ module _ (capacity : ℕ) where
       by-cond Later (eqb (first (rules capacity s st)) 0) (λ _. tt) (λ _. first-late (rules capacity s st) refl)
   read-late s (stuck r) = refl
 
-  line-late : (s : paper.State) (l : Line) → Later (judgeLine capacity s l)
-  unfolding judgeLine
-  line-late s l = by-cond Later (ltb lineBytes (length (l .content))) (λ _. refl) (λ _. read-late s (statement l))
+  item-late : (s : paper.State) (i : Item) → Later (judgeItem capacity s i)
+  unfolding judgeItem
+  item-late s i = by-cond Later (i .long) (λ _. refl) (λ _. read-late s (i .reads))
 
   ending-late : (s : paper.State) (n : ℕ) → late (ending s n .verdict) ≡ true
   unfolding ending report
@@ -57,13 +57,13 @@ module _ (capacity : ℕ) where
       Late : answers.Answer → Type 0
       Late a = late (a .verdict) ≡ true
 
-  run-late : (s : paper.State) (n : ℕ) (ls : List Line) → late (run capacity s n ls .verdict) ≡ true
+  run-late : (s : paper.State) (n : ℕ) (is : List Item) → late (run capacity s n is .verdict) ≡ true
   unfolding run report
   run-late s n [] = ending-late s n
-  run-late s n (l ∷ ls) = go (judgeLine capacity s l) (line-late s l) (λ s′. run-late s′ (suc n) ls)
+  run-late s n (i ∷ is) = go (judgeItem capacity s i) (item-late s i) (λ s′. run-late s′ (suc n) is)
     where
-      go : (o : Outcome) → Later o → ((s′ : paper.State) → late (run capacity s′ (suc n) ls .verdict) ≡ true)
-          → late (elim o as (λ _. answers.Answer) [ stands s′ ↦ run capacity s′ (suc n) ls | refused v i ↦ report s v (suc n) i ] .verdict) ≡ true
+      go : (o : Outcome) → Later o → ((s′ : paper.State) → late (run capacity s′ (suc n) is .verdict) ≡ true)
+          → late (elim o as (λ _. answers.Answer) [ stands s′ ↦ run capacity s′ (suc n) is | refused v j ↦ report s v (suc n) j ] .verdict) ≡ true
       go (stands s′) h rest = rest s′
       go (refused v i) h rest = h
 
@@ -95,7 +95,7 @@ capacity-fits n e = omega arith
 
 -- ---- the whole
 whole : (text : Bytes) (pool scratch : ℕ) → leastPool ≤ pool → leastScratch ≤ scratch → length text ≤ textBytes
-    → answer text pool scratch ≡ run (capacityOf pool) start 0 (lines text)
+    → answer text pool scratch ≡ run (capacityOf pool) start 0 (items text)
 unfolding answer
 whole text pool scratch g h l = rw (le-ltb pool leastPool g, le-ltb scratch leastScratch h, le-ltb textBytes (length text) l) refl
 
@@ -122,9 +122,9 @@ module _ {text : Bytes} {pool scratch : List ℕ} {a : Answer} where
     pub checked-run : length text ≤ textBytes → {capacity : ℕ} {p q p′ q′ : List ℕ} → capacity ≡ capacityOf (length pool) → Ran capacity text pool scratch a p q
         → p′ ≡ replicate (length p) 0 → q′ ≡ replicate (length q) 0 → Checked text pool scratch a p′ q′
     checked-run l {capacity} c r d e =
-        let w : late (a .verdict) ≡ true = ap (λ (x : answers.Answer). late (x .verdict)) (r .answer) ∙ run-late capacity start 0 (lines text) in
+        let w : late (a .verdict) ≡ true = ap (λ (x : answers.Answer). late (x .verdict)) (r .answer) ∙ run-late capacity start 0 (items text) in
         record {
-          answer = r .answer ∙ ap (λ (n : ℕ). run n start 0 (lines text)) c ∙ sym (whole text (length pool) (length scratch) g h l);
+          answer = r .answer ∙ ap (λ (n : ℕ). run n start 0 (items text)) c ∙ sym (whole text (length pool) (length scratch) g h l);
           pool-after = d ∙ ap (λ (n : ℕ). replicate n 0) (r .pool-length) ∙ room-zeroed (a .verdict) pool w;
           scratch-after = e ∙ ap (λ (n : ℕ). replicate n 0) (r .scratch-length) ∙ room-zeroed (a .verdict) scratch w;
         }

@@ -3,10 +3,10 @@ use mathlib.Core.Path.{_≡_}
 use mathlib.Core.List.{List}
 use Prim.Native.Nat.{ℕ}
 use lib.ListN.{length}
-use Rattle.paper.specs.Grammar.{Bytes, lines}
+use Rattle.paper.specs.Grammar.{Bytes}
 use Rattle.paper.specs.Rules.{start}
 use Rattle.paper.specs.Answer as paper
-use Rattle.paper.specs.Answer.{roomAfter}
+use Rattle.paper.specs.Answer.{items, roomAfter}
 use Rattle.checker.specs.declared.answer.Answer.{Answer}
 
 -- the six numbers
@@ -15,7 +15,7 @@ answerOf a = record { verdict = a .verdict; line = a .line; index = a .index; pr
 
 -- the lines were judged in rooms that stay as long
 pub record Ran (capacity : ℕ) (text : Bytes) (pool scratch : List ℕ) (r : Answer) (pool′ scratch′ : List ℕ) : Type 0 where
-  pub answer : answerOf r ≡ paper.run capacity start 0 (lines text)
+  pub answer : answerOf r ≡ paper.run capacity start 0 (items text)
   pub pool-length : length pool′ ≡ length pool
   pub scratch-length : length scratch′ ≡ length scratch
 

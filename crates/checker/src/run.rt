@@ -6,8 +6,8 @@ ghost use Rattle.checker.specs.Checked.{Ran};
 use super::answer::Answer;
 use super::answer::ending;
 use super::answer::report;
-use judging::judge_line;
-use judging::refused_index;
+use lines::judge::judge_line;
+use lines::judge::refused_index;
 use reader::find::line_end;
 use steps::state::State;
 

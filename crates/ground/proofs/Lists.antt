@@ -10,10 +10,6 @@ use lib.Seq.{take-nil, take-take, drop-drop}
 use Rattle.ground.specs.Lists.{every}
 
 -- ---- a test of every item
-pub every-none : {A : Type 0} (f : A → Bool) → true ≡ every f []
-unfolding every
-every-none f = refl
-
 pub every-append : {A : Type 0} (f : A → Bool) (xs ys : List A) → every f (xs ++ ys) ≡ (every f xs && every f ys)
 unfolding every
 every-append f [] ys = refl

@@ -1,5 +1,15 @@
 -- The paper's numbers, each once. `src/lib.rt` has those that the code needs.
-use Prim.Native.Nat.{ℕ}
+use Prim.Native.Nat.{ℕ, _+_, _*_}
+
+-- ---- the width: a set of variables in 64-bit words, and a term, which is its set and then its coefficient
+abbrev pub setWords : ℕ
+setWords = 4
+
+abbrev pub termWords : ℕ
+termWords = setWords + 1
+
+abbrev pub variables : ℕ
+variables = 64 * setWords
 
 -- ---- what a number may be
 abbrev pub greatestRing : ℕ
@@ -7,9 +17,6 @@ greatestRing = 64
 
 abbrev pub greatestIndex : ℕ
 greatestIndex = 4294967295
-
-abbrev pub variables : ℕ
-variables = 256
 
 abbrev pub greatestMagnitude : ℕ
 greatestMagnitude = 18446744073709551615
@@ -30,31 +37,26 @@ storedPolynomials = 512
 abbrev pub lineProducts : ℕ
 lineProducts = 1024
 
--- ---- the lent room, in 64-bit words: a term is the words of its set, then its coefficient
-abbrev pub setWords : ℕ
-setWords = 4
-
-abbrev pub termWords : ℕ
-termWords = 5
-
+-- ---- the lent room, in 64-bit words
 abbrev pub leastPool : ℕ
-leastPool = 480
+leastPool = fieldTerms * termWords
 
 abbrev pub mostPoolTerms : ℕ
 mostPoolTerms = 65536
 
+-- the products of a line, and three fields
 abbrev pub leastScratch : ℕ
-leastScratch = 6560
+leastScratch = (lineProducts + 3 * fieldTerms) * termWords
 
 abbrev pub leastSpellingScratch : ℕ
-leastSpellingScratch = 480
+leastSpellingScratch = fieldTerms * termWords
 
 -- ---- what the host call and the check program lend, and the longest text they take
 abbrev pub hostPool : ℕ
 hostPool = 8000
 
 abbrev pub hostScratch : ℕ
-hostScratch = 6560
+hostScratch = leastScratch
 
 abbrev pub hostTextBytes : ℕ
 hostTextBytes = 65536

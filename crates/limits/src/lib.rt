@@ -1,11 +1,16 @@
 // The paper's numbers as the code has them; specs/Limits.antt and specs/Verdicts.antt define them.
 
+// ---- the width: a set of variables in 64-bit words, and a term, which is its set and then its coefficient
+pub const SET_WORDS: usize = 4;
+
+pub const TERM_WORDS: usize = SET_WORDS + 1;
+
+pub const VARIABLES: u64 = 64 * SET_WORDS as u64;
+
 // ---- what a number may be
 pub const GREATEST_RING: u64 = 64;
 
 pub const GREATEST_INDEX: u64 = 4294967295;
-
-pub const VARIABLES: u64 = 256;
 
 pub const GREATEST_MAGNITUDE: u64 = 18446744073709551615;
 
@@ -21,22 +26,19 @@ pub const STORED_POLYNOMIALS: usize = 512;
 pub const LINE_PRODUCTS: usize = 1024;
 
 // ---- the lent room
-pub const SET_WORDS: usize = 4;
-
-pub const TERM_WORDS: usize = 5;
-
-pub const LEAST_POOL: usize = 480;
+pub const LEAST_POOL: usize = FIELD_TERMS * TERM_WORDS;
 
 pub const MOST_POOL_TERMS: usize = 65536;
 
-pub const LEAST_SCRATCH: usize = 6560;
+// The products of a line, and three fields.
+pub const LEAST_SCRATCH: usize = (LINE_PRODUCTS + 3 * FIELD_TERMS) * TERM_WORDS;
 
-pub const LEAST_SPELLING_SCRATCH: usize = 480;
+pub const LEAST_SPELLING_SCRATCH: usize = FIELD_TERMS * TERM_WORDS;
 
 // ---- what the host call and the check program lend, and the longest text they take
 pub const HOST_POOL: usize = 8000;
 
-pub const HOST_SCRATCH: usize = 6560;
+pub const HOST_SCRATCH: usize = LEAST_SCRATCH;
 
 pub const HOST_TEXT_BYTES: usize = 65536;
 

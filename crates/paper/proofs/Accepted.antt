@@ -10,8 +10,8 @@ use Rattle.algebra.specs.Polynomial.{value, vars, allVars, AllZero, none}
 use Rattle.algebra.proofs.Sets.{bit-or, bit-of-zero}
 use Rattle.algebra.proofs.Bit.{value-none}
 use Rattle.algebra.proofs.Derivation.{Zeroed, derived-zero, derived-goal}
-use Rattle.paper.specs.Statement.{Statement, ring, fields}
-use Rattle.paper.specs.Rules.{steps, State, start, entries, makesSeen, after}
+use Rattle.paper.specs.Statement.{modulo, Statement, ring, forgets, fields}
+use Rattle.paper.specs.Rules.{steps, State, start, without, entries, showsAll, makesSeen, after}
 use Rattle.paper.specs.Answer.{ringIn, definedIn, inputsIn, goalIn, introducedIn}
 use Rattle.paper.proofs.Steps.{Opened, nothing, opening}
 use Rattle.paper.proofs.Sound.{Good, Final, final}
@@ -21,8 +21,8 @@ pub record Sound (k : ℕ) (sts : List Statement) : Type 0 where
   pub goal-zero : (a : ℕ) → AllZero k a (inputsIn k sts) → value k a (goalIn k sts) ≡ 0
   pub all-zero : (a : ℕ) → AllZero k a (inputsIn k sts) → Zeroed k a (definedIn sts) (introducedIn k sts)
 
-good-ring : (k : ℕ) → Good k (after start (ring k)) [] 0 []
-unfolding after start entries makesSeen fields allVars vars
+good-ring : (k : ℕ) → Good k (after start (ring (modulo k))) [] 0 []
+unfolding after start without forgets entries makesSeen showsAll fields allVars vars
 good-ring k = record {
   ringed = refl;
   begun = omega arith;
@@ -35,8 +35,8 @@ good-ring k = record {
   hit = λ e. record { at = λ b z. value-none k b };
 }
 
-sound-ring : (k : ℕ) (sts : List Statement) (e : State) → Final k (after start (ring k)) sts [] 0 [] e → e .phase ≡ steps → e .reached ≡ true
-    → Sound k (ring k ∷ sts)
+sound-ring : (k : ℕ) (sts : List Statement) (e : State) → Final k (after start (ring (modulo k))) sts [] 0 [] e → e .phase ≡ steps → e .reached ≡ true
+    → Sound k (ring (modulo k) ∷ sts)
 unfolding inputsIn goalIn introducedIn definedIn gather after entries
 sound-ring k sts e f ph re = record {
   goal-zero = λ a z. ap (value k a) (sym aim) ∙ derived-goal k (f .good .derived) (f .good .apart) (f .good .hit re) a (f .given a tt z);

@@ -9,8 +9,8 @@ use lib.ListN.{length, length-append}
 use Rattle.ground.specs.Lists.{every, any, total}
 use Rattle.ground.proofs.Tests.{or-none-left, and-left}
 use Rattle.algebra.specs.Polynomial.{Poly, extension}
-use Rattle.paper.specs.Statement.{Statement, ring, input, goal, lin, del, ext, newIndex, namedIndices, reduced}
-use Rattle.paper.specs.Rules.{modulo, Store, stored, Distinct, find, storedTerms, State, start, place, entries, productCount, after}
+use Rattle.paper.specs.Statement.{modulo, Statement, ring, input, goal, lin, del, ext, newIndex, namedIndices, forgets, reduced}
+use Rattle.paper.specs.Rules.{Store, stored, Distinct, find, remove, storedTerms, State, start, place, entries, productCount, without, after}
 use Rattle.paper.specs.Answer.{ringIn, sumOver, named, productsIn, introducedPolynomials, deletedPolynomials, introducedTerms, deletedTerms}
 use Rattle.paper.proofs.Stands.{Stands, stands-none}
 use Rattle.paper.proofs.Steps.{withRing, by-ring, Steps, done, step, Opened, nothing, opening}
@@ -19,6 +19,11 @@ use Rattle.paper.proofs.Store.{find-new, terms-append, distinct-append,
 look : (b : Bool) (p q : Poly) → cond b p q ≡ cond (b || false) (cond b p []) q
 look true p q = refl
 look false p q = refl
+
+-- looked up among none but i
+gone : (b : Bool) (q : Poly) → cond b [] q ≡ cond (b || false) [] q
+gone true q = refl
+gone false q = refl
 
 no-terms : storedTerms [] ≡ 0
 unfolding storedTerms total
@@ -60,7 +65,7 @@ module _ (k : ℕ) where
       more-terms = omega (arith, terms-append (s .store) (record { index = i; poly = p } ∷ []), c .terms)
 
     next : (capacity : ℕ) (st : Statement) → Stands capacity (withRing k s) st → Carried (after (withRing k s) st) (st ∷ h)
-    unfolding place after entries newIndex namedIndices stored find any every ringIn named deletedPolynomials introducedPolynomials deletedTerms introducedTerms sumOver
+    unfolding place after entries without forgets total newIndex namedIndices stored find any every ringIn named deletedPolynomials introducedPolynomials deletedTerms introducedTerms sumOver
     next capacity (ring j) st = absurd (omega (arith, st .placed, c .begun))
     next capacity (input i p) st = record {
       ringed = refl;
@@ -98,11 +103,11 @@ module _ (k : ℕ) where
           ringed = refl;
           begun = c .begun;
           ring-in = c .ring-in;
-          distinct = distinct-remove (s .store) i (c .distinct);
-          finds = λ j. find-remove (s .store) i j (c .distinct) ∙ ap (λ (q : Poly). cond (eqb j i) [] q) (c .finds j);
+          distinct = rw (append-nil (remove (s .store) i)) (distinct-remove (s .store) i (c .distinct));
+          finds = λ j. rw (append-nil (remove (s .store) i)) (find-remove (s .store) i j (c .distinct) ∙ ap (λ (q : Poly). cond (eqb j i) [] q) (c .finds j) ∙ gone (eqb j i) (named k h j));
           products = counted (del i);
-          polynomials = omega (arith, c .polynomials, r .1);
-          terms = omega (arith, c .terms, r .0, ap length (c .finds i), no-terms);
+          polynomials = rw (append-nil (remove (s .store) i)) (omega (arith, c .polynomials, r .1));
+          terms = rw (append-nil (remove (s .store) i)) (omega (arith, c .terms, r .0, ap length (c .finds i), no-terms));
         }
     next capacity (ext i v p) st = record {
       ringed = refl;
@@ -137,10 +142,10 @@ counted-start : Counted (ringIn []) start []
 unfolding start productsIn deletedPolynomials introducedPolynomials deletedTerms introducedTerms sumOver storedTerms total
 counted-start = record { products = refl; polynomials = refl; terms = refl }
 
-carried-ring : (k : ℕ) → Carried k (after start (ring k)) (ring k ∷ [])
-unfolding start after entries productCount ringIn find named stored any productsIn deletedPolynomials introducedPolynomials deletedTerms introducedTerms sumOver storedTerms total
+carried-ring : (k : ℕ) → Carried k (after start (ring (modulo k))) (ring (modulo k) ∷ [])
+unfolding start after without forgets entries productCount ringIn find named stored any productsIn deletedPolynomials introducedPolynomials deletedTerms introducedTerms sumOver storedTerms total
 carried-ring k = record { ringed = refl; begun = omega arith; ring-in = refl; distinct = tt; finds = λ i. refl; products = refl; polynomials = refl; terms = refl }
 
 pub counted-steps : (capacity : ℕ) {e : State} {sts : List Statement} → Opened capacity sts e → Counted (ringIn (reverseAux sts [])) e (reverseAux sts [])
 counted-steps capacity nothing = counted-start
-counted-steps capacity (opening {sts} {e} k r) = of-carried k e (reverseAux sts (ring k ∷ [])) (carried k capacity r (ring k ∷ []) (carried-ring k))
+counted-steps capacity (opening {sts} {e} k r) = of-carried k e (reverseAux sts (ring (modulo k) ∷ [])) (carried k capacity r (ring (modulo k) ∷ []) (carried-ring k))

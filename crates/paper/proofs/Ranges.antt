@@ -7,9 +7,9 @@ use borrow.Author.Tests.{leb-true}
 use Rattle.ground.specs.Lists.{every}
 use Rattle.ground.proofs.Tests.{and-left, and-right}
 use Rattle.limits.specs.Limits.{greatestRing, greatestMagnitude}
-use Rattle.paper.specs.Statement.{WrittenTerm, isRing, isVariable, isTerm}
+use Rattle.paper.specs.Statement.{WrittenTerm, modulo, isRing, isVariable, isTerm}
 
-module _ (k : ℕ) (e : isRing k ≡ true) where
+module _ (k : ℕ) (e : isRing (modulo k) ≡ true) where
   pub ring-some : 1 ≤ k
   unfolding isRing
   ring-some = leb-true 1 k (and-left (leb 1 k) (leb k greatestRing) e)

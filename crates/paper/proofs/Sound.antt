@@ -17,8 +17,8 @@ use Rattle.algebra.proofs.Bit.{equal-true}
 use Rattle.algebra.proofs.Variables.{vars-extension}
 use Rattle.algebra.proofs.Derivation.{zero-left, zero-right, zero-both}
 use Rattle.limits.specs.Verdicts.{SEEN, MISMATCH, NOTBIT}
-use Rattle.paper.specs.Statement.{Written, Pair, Statement, ring, input, goal, lin, del, ext, onInput, onExt, fields, reduced}
-use Rattle.paper.specs.Rules.{modulo, inputs, steps, find, State, place, entries, makesSeen, combination, holdsGoal, rules, after}
+use Rattle.paper.specs.Statement.{Written, Pair, modulo, Statement, ring, input, goal, lin, del, ext, onInput, onExt, forgets, fields, reduced}
+use Rattle.paper.specs.Rules.{inputs, steps, find, remove, State, place, entries, shows, showsAll, makesSeen, combination, holdsGoal, without, rules, after}
 use Rattle.paper.specs.Answer.{inputsIn, goalIn, introducedIn, definedIn}
 use Rattle.paper.proofs.Stands.{Stands, stands-none}
 use Rattle.paper.proofs.Steps.{withRing, by-ring, Steps, done, step}
@@ -40,10 +40,8 @@ none-more false e = e
 seen-own : (d n m v : ℕ) → bit d v ≤ bit (bitOr (bitOr d n) m) v
 seen-own d n m v = omega (arith, bit-or (bitOr d n) m v, bit-or d n v)
 
-seen-first : (d : ℕ) (p : Poly) (ps : List Poly) (m v : ℕ) → bit (vars p) v ≤ bit (bitOr (bitOr d (allVars (p ∷ ps))) m) v
-unfolding allVars
-seen-first d p ps m v =
-    omega (arith, bit-or (bitOr d (bitOr (vars p) (allVars ps))) m v, bit-or d (bitOr (vars p) (allVars ps)) v, bit-or (vars p) (allVars ps) v)
+seen-first : (d n o m v : ℕ) → bit n v ≤ bit (bitOr (bitOr d (bitOr n o)) m) v
+seen-first d n o m v = omega (arith, bit-or (bitOr d (bitOr n o)) m v, bit-or d (bitOr n o) v, bit-or n o v)
 
 all-in : (p : Poly) (ps : List Poly) (m v : ℕ) → bit (vars p) v ≤ bit m v → bit (allVars ps) v ≤ bit m v → bit (allVars (p ∷ ps)) v ≤ bit m v
 unfolding allVars
@@ -89,13 +87,13 @@ module _ (k : ℕ) where
 
     module _ (is : List Poly) (es : ℕ) (ps : List Poly) (g : Good (withRing k s) is es ps) where
       next-input : (i : ℕ) (p : Written) → s .phase ≡ inputs → Next (input i p) is es ps
-      unfolding after entries makesSeen fields
+      unfolding after entries makesSeen shows showsAll fields forgets without
       next-input i p ph = record {
         ringed = refl;
         begun = g .begun;
         derived = inputOf (reduced k p) (apart-zero (vars (reduced k p)) (g .early ph)) (g .derived);
         kept = λ b z. zero-append k b (s .store) _ (g .kept b (z .1)) (z .0, tt);
-        witnessed = λ v. all-in (reduced k p) ps _ v (seen-first 0 (reduced k p) [] (s .seen) v) (le-trans (g .witnessed v) (old (input i p) v));
+        witnessed = λ v. all-in (reduced k p) ps _ v (seen-first 0 (vars (reduced k p)) 0 (s .seen) v) (le-trans (g .witnessed v) (old (input i p) v));
         early = g .early;
         aimed = λ v. le-trans (g .aimed v) (old (input i p) v);
         apart = g .apart;
@@ -103,7 +101,7 @@ module _ (k : ℕ) where
       }
 
       next-goal : (p : Written) → s .phase ≡ inputs → Next (goal p) is es ps
-      unfolding after entries makesSeen fields
+      unfolding after entries makesSeen shows showsAll fields forgets without
       next-goal p ph = record {
         ringed = refl;
         begun = omega arith;
@@ -111,7 +109,7 @@ module _ (k : ℕ) where
         kept = λ b z. zero-append k b (s .store) [] (g .kept b z) tt;
         witnessed = λ v. le-trans (g .witnessed v) (old (goal p) v);
         early = λ e. absurd (omega arith);
-        aimed = λ v. seen-first 0 (reduced k p) [] (s .seen) v;
+        aimed = λ v. seen-first 0 (vars (reduced k p)) 0 (s .seen) v;
         apart = apart-zero (vars (reduced k p)) (g .early ph);
         hit = λ e. record { at = λ b z. zero-goal k b (reduced k p) (s .store) (g .kept b z) e };
       }
@@ -124,13 +122,13 @@ module _ (k : ℕ) where
           (or-cases (s .reached) (holdsGoal (s .goal) (record { index = i; poly = p } ∷ [])) e)
 
       next-lin : (i : ℕ) (p : Written) (qs : List Pair) → reduced k p ≡ reduce k (combination k (find (s .store)) qs) → Next (lin i p qs) is es ps
-      unfolding after entries makesSeen fields
+      unfolding after entries makesSeen shows showsAll fields forgets without
       next-lin i p qs e = record {
         ringed = refl;
         begun = g .begun;
         derived = forced (reduced k p) (record { at = λ b z. zero-stated k b (reduced k p) qs (s .store) (g .kept b z) e }) (g .derived);
         kept = λ b z. zero-append k b (s .store) _ (g .kept b (z .1)) (z .0, tt);
-        witnessed = λ v. all-in (reduced k p) ps _ v (seen-first 0 (reduced k p) _ (s .seen) v) (le-trans (g .witnessed v) (old (lin i p qs) v));
+        witnessed = λ v. all-in (reduced k p) ps _ v (seen-first 0 (vars (reduced k p)) _ (s .seen) v) (le-trans (g .witnessed v) (old (lin i p qs) v));
         early = g .early;
         aimed = λ v. le-trans (g .aimed v) (old (lin i p qs) v);
         apart = g .apart;
@@ -138,12 +136,12 @@ module _ (k : ℕ) where
       }
 
       next-del : (i : ℕ) → Next (del i) is es ps
-      unfolding after entries makesSeen fields holdsGoal any
+      unfolding after entries makesSeen shows showsAll fields forgets without holdsGoal any
       next-del i = record {
         ringed = refl;
         begun = g .begun;
         derived = g .derived;
-        kept = λ b z. zero-remove k b i (s .store) (g .kept b z);
+        kept = λ b z. zero-append k b (remove (s .store) i) [] (zero-remove k b i (s .store) (g .kept b z)) tt;
         witnessed = λ v. le-trans (g .witnessed v) (old (del i) v);
         early = g .early;
         aimed = λ v. le-trans (g .aimed v) (old (del i) v);
@@ -153,14 +151,14 @@ module _ (k : ℕ) where
 
       next-ext : (i v : ℕ) (p : Written) → s .phase ≡ steps → bit (bitOr (vars (reduced k p)) (s .seen)) v ≡ 0 → product k (reduced k p) (reduced k p) ≡ reduced k p
           → Next (ext i v p) is es ps
-      unfolding after entries makesSeen fields
+      unfolding after entries makesSeen shows showsAll fields forgets without
       next-ext i v p ph unseen square = record {
         ringed = refl;
         begun = g .begun;
         derived = defined v r square (has-none (bitOr (vars r) (allVars ps)) v fresh) (g .derived);
         kept = λ b z. zero-append k b (s .store) _ (g .kept b (z .1)) (z .0, tt);
         witnessed = λ w. all-in (extension k v r) ps _ w
-            (omega (arith, vars-extension k w v r, bit-or (2 ^ v) (vars r) w, seen-own (2 ^ v) (allVars (r ∷ [])) (s .seen) w, seen-first (2 ^ v) r [] (s .seen) w))
+            (omega (arith, vars-extension k w v r, bit-or (2 ^ v) (vars r) w, seen-own (2 ^ v) (bitOr (vars r) 0) (s .seen) w, seen-first (2 ^ v) (vars r) 0 (s .seen) w))
             (le-trans (g .witnessed w) (old (ext i v p) w));
         early = λ e. absurd (omega arith);
         aimed = λ w. le-trans (g .aimed w) (old (ext i v p) w);
@@ -178,7 +176,7 @@ module _ (k : ℕ) where
           fresh = omega (arith, unseen, bit-or (vars r) (s .seen) v, bit-or (vars r) (allVars ps) v, g .witnessed v)
 
       next : (capacity : ℕ) (st : Statement) → Stands capacity (withRing k s) st → Next st is es ps
-      unfolding place rules
+      unfolding place rules shows
       next capacity (ring j) h = absurd (omega (arith, h .placed, g .begun))
       next capacity (input i p) h = next-input i p (sym (h .placed))
       next capacity (goal p) h = next-goal p (sym (h .placed))

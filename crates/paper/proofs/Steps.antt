@@ -4,17 +4,16 @@ use mathlib.Core.Bool.{true}
 use mathlib.Core.List.{List, [], _∷_, _++_, reverseAux}
 use Prim.Native.Nat.{ℕ, suc, _<_}
 use native.Mathlib.Omega.{arith}
-use lib.Dec.{eqb, ltb}
+use lib.Dec.{eqb}
 use lib.ListN.{length}
 use borrow.Author.Tests.{eqb-true, eqb-false}
 use Rattle.ground.specs.Lists.{gather}
 use Rattle.ground.proofs.Tests.{by-cond}
-use Rattle.limits.specs.Limits.{lineBytes}
 use Rattle.limits.specs.Verdicts.{ACCEPTED, LONGLINE, FORM, NOGOAL, NOTREACHED}
-use Rattle.paper.specs.Rules.{first, modulo, steps, storedTerms, State, start, place, rules, after}
-use Rattle.paper.specs.Grammar.{Line, Read, got, stuck, statement}
-use Rattle.paper.specs.Statement.{Statement, ring, input, goal, lin, del, ext}
-use Rattle.paper.specs.Answer.{Answer, Outcome, stands, refused, judge, judgeLine, report, ending, run, ifRead, acceptedFrom}
+use Rattle.paper.specs.Rules.{first, steps, storedTerms, State, start, place, rules, after}
+use Rattle.paper.specs.Grammar.{Read, got, stuck}
+use Rattle.paper.specs.Statement.{modulo, Statement, ring, input, goal, lin, del, ext}
+use Rattle.paper.specs.Answer.{Answer, Outcome, stands, refused, judge, Item, judgeItem, report, ending, run, ifRead, statementsOf, acceptedFrom}
 use Rattle.paper.proofs.Stands.{stands-none}
 
 positive : (n : ℕ) → (n ≡ 0 → ⊥) → 0 < n
@@ -36,7 +35,7 @@ module _ (capacity : ℕ) where
     done : {s : State} → Steps s [] s
     step : {s e : State} {sts : List Statement} (st : Statement) → first (rules capacity s st) ≡ 0 → Steps (after s st) sts e → Steps s (st ∷ sts) e
 
-  -- ---- one line
+  -- ---- one item
   abbrev Judged : State → Read Statement → Outcome → Type 0
   Judged s (got st r) (stands s′) = (first (rules capacity s st) ≡ 0) × (s′ ≡ after s st)
   Judged s (stuck r) (stands s′) = ⊥
@@ -50,15 +49,15 @@ module _ (capacity : ℕ) where
       (λ e. positive (first (rules capacity s st)) (eqb-false (first (rules capacity s st)) 0 e))
   judged-read s (stuck r) = omega arith
 
-  judged : (s : State) (l : Line) → Judged s (statement l) (judgeLine capacity s l)
-  unfolding judgeLine
-  judged s l = by-cond (Judged s (statement l)) (ltb lineBytes (length (l .content))) (λ e. long (statement l)) (λ e. judged-read s (statement l))
+  judged : (s : State) (i : Item) → Judged s (i .reads) (judgeItem capacity s i)
+  unfolding judgeItem
+  judged s i = by-cond (Judged s (i .reads)) (i .long) (λ e. long (i .reads)) (λ e. judged-read s (i .reads))
     where
       long : (r : Read Statement) → Judged s r (refused LONGLINE 0)
       long (got st r) = omega arith
       long (stuck r) = omega arith
 
-  -- ---- all lines: those that stood, what is heard of them, and the answer
+  -- ---- all items: those that stood, what is heard of them, and the answer
   pub record Ran (s : State) (heard : List Statement → List Statement) (read : List Statement) (a : Answer) : Type 0 where
     pub last : State
     pub sts : List Statement
@@ -109,10 +108,10 @@ module _ (capacity : ℕ) where
       (λ e. by-cond (Ran s (λ h. h) []) _ (λ f. won s (eqb-true (s .phase) steps e) f) (λ f. stopped s [] NOTREACHED n 0 (omega arith)))
       (λ e. stopped s [] NOGOAL n 0 (omega arith))
 
-  module _ (s : State) (n : ℕ) (ls : List Line) (rest : (s′ : State) → Ran s′ (λ h. acceptedFrom capacity s′ h ls) (gather (λ l. ifRead (statement l)) ls) (run capacity s′ n ls)) where
+  module _ (s : State) (n : ℕ) (is : List Item) (rest : (s′ : State) → Ran s′ (λ h. acceptedFrom capacity s′ h is) (statementsOf is) (run capacity s′ n is)) where
     onward : (r : Read Statement) (o : Outcome) → Judged s r o
-        → Ran s (λ h. elim o [ stands s′ ↦ acceptedFrom capacity s′ (ifRead r ++ h) ls | refused v i ↦ h ]) (ifRead r ++ gather (λ l. ifRead (statement l)) ls)
-        (elim o [ stands s′ ↦ run capacity s′ n ls | refused v i ↦ report s v n i ])
+        → Ran s (λ h. elim o [ stands s′ ↦ acceptedFrom capacity s′ (ifRead r ++ h) is | refused v i ↦ h ]) (ifRead r ++ statementsOf is)
+        (elim o [ stands s′ ↦ run capacity s′ n is | refused v i ↦ report s v n i ])
     onward (got st r) (stands s′) j =
         let f = rest s′ in
         record {
@@ -128,22 +127,22 @@ module _ (capacity : ℕ) where
           all = λ e. ap (λ (x : List Statement). st ∷ x) (f .all e);
         }
     onward (stuck r) (stands s′) j = absurd j
-    onward (got st r) (refused v i) j = stopped s (st ∷ gather (λ l. ifRead (statement l)) ls) v n i j
-    onward (stuck r) (refused v i) j = stopped s (gather (λ l. ifRead (statement l)) ls) v n i j
+    onward (got st r) (refused v i) j = stopped s (st ∷ statementsOf is) v n i j
+    onward (stuck r) (refused v i) j = stopped s (statementsOf is) v n i j
 
-  pub ran : (s : State) (n : ℕ) (ls : List Line) → Ran s (λ h. acceptedFrom capacity s h ls) (gather (λ l. ifRead (statement l)) ls) (run capacity s n ls)
-  unfolding run acceptedFrom gather
+  pub ran : (s : State) (n : ℕ) (is : List Item) → Ran s (λ h. acceptedFrom capacity s h is) (statementsOf is) (run capacity s n is)
+  unfolding run acceptedFrom statementsOf gather
   ran s n [] = ended s n
-  ran s n (l ∷ ls) = onward s (suc n) ls (λ s′. ran s′ (suc n) ls) (statement l) (judgeLine capacity s l) (judged s l)
+  ran s n (i ∷ is) = onward s (suc n) is (λ s′. ran s′ (suc n) is) (i .reads) (judgeItem capacity s i) (judged s i)
 
   -- ---- from the start: nothing stands, or a ring line first
   pub data Opened : List Statement → State → Type 0 where
     nothing : Opened [] start
-    opening : {sts : List Statement} {e : State} (k : ℕ) → Steps (after start (ring k)) sts e → Opened (ring k ∷ sts) e
+    opening : {sts : List Statement} {e : State} (k : ℕ) → Steps (after start (ring (modulo k))) sts e → Opened (ring (modulo k) ∷ sts) e
 
   first-ring : (st : Statement) {sts : List Statement} {e : State} → place st ≡ 0 → Steps (after start st) sts e → Opened (st ∷ sts) e
   unfolding place
-  first-ring (ring k) h r = opening k r
+  first-ring (ring (modulo k)) h r = opening k r
   first-ring (input i p) h r = absurd (omega arith)
   first-ring (goal p) h r = absurd (omega arith)
   first-ring (lin i p qs) h r = absurd (omega arith)

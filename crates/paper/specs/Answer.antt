@@ -1,12 +1,12 @@
 -- The answer for a text and its lent room, and what the text says.
-use mathlib.Core.{Bool._||_, Bool.cond, List.List, List.[], List._∷_, List._++_, List.map}
+use mathlib.Core.{Bool.Bool, Bool._||_, Bool.cond, List.List, List.[], List._∷_, List._++_, List.map}
 use Prim.Native.Nat.{ℕ, suc, _+_, _/_, _^_, min}
 use lib.{Dec.eqb, Dec.leb, Dec.ltb, ListN.length, ListN.replicate, Bits.bitOr}
 use Rattle.limits.specs.Limits.{textBytes, lineBytes, termWords, leastPool, mostPoolTerms, leastScratch}
 use Rattle.limits.specs.Verdicts.{ACCEPTED, SHORT, LONGTEXT, LONGLINE, FORM, TERMS, NOGOAL, NOTREACHED}
-use Rattle.ground.specs.Lists.{gather}
+use Rattle.ground.specs.Lists.{any, total, gather}
 use Rattle.algebra.specs.Polynomial.{Poly}
-use Rattle.paper.specs.Statement.{Statement, ring, input, goal, lin, del, ext, onRing, onInput, onGoal, onDel, onExt, reduced}
+use Rattle.paper.specs.Statement.{bits, Statement, ring, input, goal, lin, del, ext, onRing, onInput, onGoal, onExt, forgets, reduced}
 use Rattle.paper.specs.Grammar.{Bytes, Line, lines, Read, got, stuck, statement}
 use Rattle.paper.specs.Rules.{first, steps, storedTerms, State, start, stored, find, rules, after, entries, productCount}
 
@@ -24,7 +24,7 @@ pub data Outcome : Type 0 where
   refused : ℕ → ℕ → Outcome
 
 unfoldable pub indexOf : Statement → ℕ
-indexOf st = elim st [ ring k ↦ 0 | input i p ↦ i | goal p ↦ 0 | lin i p qs ↦ i | del i ↦ i | ext i v p ↦ i ]
+indexOf st = elim st [ ring r ↦ 0 | input i p ↦ i | goal p ↦ 0 | lin i p qs ↦ i | del i ↦ i | ext i v p ↦ i ]
 
 -- the index counts from TERMS on
 unfoldable pub judge : ℕ → State → Statement → Outcome
@@ -32,10 +32,22 @@ judge capacity s st =
     let v : ℕ = first (rules capacity s st) in
     cond (eqb v ACCEPTED) (stands (after s st)) (refused v (cond (leb TERMS v) (indexOf st) 0))
 
-unfoldable pub judgeLine : ℕ → State → Line → Outcome
-judgeLine capacity s l =
-    let read : Outcome = elim (statement l) [ got st r ↦ judge capacity s st | stuck r ↦ refused FORM 0 ] in
-    cond (ltb lineBytes (length (l .content))) (refused LONGLINE 0) read
+-- ---- an item of a text, whatever its syntax: whether it is too long, and how it reads
+pub record Item : Type 0 where
+  pub long : Bool
+  pub reads : Read Statement
+
+unfoldable pub judgeItem : ℕ → State → Item → Outcome
+judgeItem capacity s i =
+    let read : Outcome = elim (i .reads) [ got st r ↦ judge capacity s st | stuck r ↦ refused FORM 0 ] in
+    cond (i .long) (refused LONGLINE 0) read
+
+-- a line as an item
+unfoldable pub itemOf : Line → Item
+itemOf l = record { long = ltb lineBytes (length (l .content)); reads = statement l }
+
+unfoldable pub items : Bytes → List Item
+items text = map itemOf (lines text)
 
 -- ---- the whole text
 unfoldable pub report : State → ℕ → ℕ → ℕ → Answer
@@ -44,10 +56,10 @@ report s v n i = record { verdict = v; line = n; index = i; products = s .produc
 unfoldable pub ending : State → ℕ → Answer
 ending s n = cond (eqb (s .phase) steps) (cond (s .reached) (report s ACCEPTED 0 0) (report s NOTREACHED n 0)) (report s NOGOAL n 0)
 
--- line by line, n of them before
-unfoldable pub run : ℕ → State → ℕ → List Line → Answer
+-- item by item, n of them before
+unfoldable pub run : ℕ → State → ℕ → List Item → Answer
 run capacity s n [] = ending s n
-run capacity s n (l ∷ ls) = elim (judgeLine capacity s l) [ stands s′ ↦ run capacity s′ (suc n) ls | refused v i ↦ report s v (suc n) i ]
+run capacity s n (i ∷ is) = elim (judgeItem capacity s i) [ stands s′ ↦ run capacity s′ (suc n) is | refused v j ↦ report s v (suc n) j ]
 
 -- the terms that a pool holds
 unfoldable pub capacityOf : ℕ → ℕ
@@ -59,7 +71,7 @@ unread v = record { verdict = v; line = 0; index = 0; products = 0; polynomials 
 
 unfoldable pub answer : Bytes → ℕ → ℕ → Answer
 answer text pool scratch =
-    let whole : Answer = run (capacityOf pool) start 0 (lines text) in
+    let whole : Answer = run (capacityOf pool) start 0 (items text) in
     cond (ltb pool leastPool || ltb scratch leastScratch) (unread SHORT) (cond (ltb textBytes (length text)) (unread LONGTEXT) whole)
 
 -- pool or scratch afterwards: untouched after SHORT and LONGTEXT, else zero throughout
@@ -71,19 +83,22 @@ abbrev pub ifRead : Read Statement → List Statement
 ifRead (got st r) = st ∷ []
 ifRead (stuck r) = []
 
-unfoldable pub statements : Bytes → List Statement
-statements text = gather (λ l. ifRead (statement l)) (lines text)
+unfoldable pub statementsOf : List Item → List Statement
+statementsOf is = gather (λ i. ifRead (i .reads)) is
 
-unfoldable pub acceptedFrom : ℕ → State → List Statement → List Line → List Statement
+unfoldable pub statements : Bytes → List Statement
+statements text = statementsOf (items text)
+
+unfoldable pub acceptedFrom : ℕ → State → List Statement → List Item → List Statement
 acceptedFrom capacity s h [] = h
-acceptedFrom capacity s h (l ∷ ls) = elim (judgeLine capacity s l) [ stands s′ ↦ acceptedFrom capacity s′ (ifRead (statement l) ++ h) ls | refused v i ↦ h ]
+acceptedFrom capacity s h (i ∷ is) = elim (judgeItem capacity s i) [ stands s′ ↦ acceptedFrom capacity s′ (ifRead (i .reads) ++ h) is | refused v j ↦ h ]
 
 unfoldable pub accepted : Bytes → ℕ → List Statement
-accepted text pool = acceptedFrom (capacityOf pool) start [] (lines text)
+accepted text pool = acceptedFrom (capacityOf pool) start [] (items text)
 
 unfoldable pub ringIn : List Statement → ℕ
 ringIn [] = 0
-ringIn (st ∷ sts) = onRing (ringIn sts) (λ k. k) st
+ringIn (st ∷ sts) = onRing (ringIn sts) bits st
 
 -- the variables that ext lines define
 unfoldable pub definedIn : List Statement → ℕ
@@ -96,7 +111,7 @@ sumOver f [] = 0
 sumOver f (st ∷ h) = sumOver f h + f h st
 
 unfoldable pub deletedPolynomials : List Statement → ℕ
-deletedPolynomials = sumOver (λ h. onDel 0 (λ i. 1))
+deletedPolynomials = sumOver (λ h st. length (forgets st))
 
 module _ (k : ℕ) where
   unfoldable pub inputsIn : List Statement → List Poly
@@ -113,7 +128,7 @@ module _ (k : ℕ) where
   -- ---- the counts over accepted statements; `named` is the polynomial that an index names after them
   unfoldable pub named : List Statement → ℕ → Poly
   named [] i = []
-  named (st ∷ h) i = cond (stored (entries k st) i) (find (entries k st) i) (onDel (named h i) (λ j. cond (eqb i j) [] (named h i)) st)
+  named (st ∷ h) i = cond (stored (entries k st) i) (find (entries k st) i) (cond (any (eqb i) (forgets st)) [] (named h i))
 
   unfoldable pub productsIn : List Statement → ℕ
   productsIn = sumOver (λ h st. productCount k (named h) st)
@@ -125,4 +140,4 @@ module _ (k : ℕ) where
   introducedTerms = sumOver (λ h st. storedTerms (entries k st))
 
   unfoldable pub deletedTerms : List Statement → ℕ
-  deletedTerms = sumOver (λ h. onDel 0 (λ i. length (named h i)))
+  deletedTerms = sumOver (λ h st. total (λ i. length (named h i)) (forgets st))

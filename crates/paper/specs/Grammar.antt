@@ -2,7 +2,7 @@
 use mathlib.Core.{Bool.Bool, Bool.true, Bool.false, Bool.cond, Bool._&&_, Bool.not, List.List, List.[], List._∷_}
 use Prim.Native.{Nat.ℕ, Nat.zero, Nat.suc, Nat._+_, Nat._-_, Nat._*_, String.String, String.[] as nil, String._∷_ as cons, Char.code}
 use lib.{Dec.eqb, Dec.leb, ListN.length}
-use Rattle.paper.specs.Statement.{WrittenTerm, Written, Pair, Statement, ring, input, goal, lin, del, ext}
+use Rattle.paper.specs.Statement.{WrittenTerm, Written, Pair, modulo, Statement, ring, input, goal, lin, del, ext}
 
 -- ---- a text is a list of bytes; each of its lines ends with byte 10
 abbrev pub Bytes : Type 0
@@ -86,8 +86,16 @@ unfoldable pub sign : Reader Bool
 sign [] = got false []
 sign (b ∷ s) = cond (eqb b (code "-")) (got true s) (got false (b ∷ s))
 
+-- the variables behind a magnitude
+abbrev pub moreVariables : Reader (List ℕ)
+moreVariables = each (code ".") decimal
+
 unfoldable pub term : Reader WrittenTerm
-term = do n ← sign; m ← decimal; vs ← each (code ".") decimal; give (record { negative = n; magnitude = m; variables = vs })
+term = do n ← sign; m ← decimal; vs ← moreVariables; give (record { negative = n; magnitude = m; variables = vs })
+
+-- the terms behind a first
+abbrev pub moreTerms : Reader (List WrittenTerm)
+moreTerms = each (code " ") term
 
 -- the field `0` is the zero polynomial
 unfoldable pub asWritten : WrittenTerm → List WrittenTerm → Written
@@ -95,7 +103,7 @@ asWritten t [] = cond (not (t .negative) && eqb (t .magnitude) 0 && elim (t .var
 asWritten t (u ∷ ts) = t ∷ u ∷ ts
 
 unfoldable pub polynomial : Reader Written
-polynomial = do t ← term; ts ← each (code " ") term; give (asWritten t ts)
+polynomial = do t ← term; ts ← moreTerms; give (asWritten t ts)
 
 -- ---- lines: a keyword, then fields, each behind a tab
 unfoldable pub tab : Reader (Unit {0})
@@ -110,16 +118,38 @@ field = do tab; polynomial
 unfoldable pub pair : Reader Pair
 pair = do i ← decimal; f ← field; give (record { index = i; factor = f })
 
+-- the pairs behind a first, and one pair or more
+abbrev pub morePairs : Reader (List Pair)
+morePairs = each (code "\t") pair
+
+unfoldable pub pairs : Reader (List Pair)
+pairs = do tab; q ← pair; qs ← morePairs; give (q ∷ qs)
+
+-- ---- the kinds of lines: a keyword and the reader of its fields
+abbrev pub LineKind : Type 0
+LineKind = Bytes × Reader Statement
+
+abbrev pub ringLine : LineKind
+ringLine = (bytes "ring", do k ← number; give (ring (modulo k)))
+
+abbrev pub inputLine : LineKind
+inputLine = (bytes "in", do i ← number; p ← field; give (input i p))
+
+abbrev pub goalLine : LineKind
+goalLine = (bytes "goal", do p ← field; give (goal p))
+
+abbrev pub linLine : LineKind
+linLine = (bytes "lin", do i ← number; p ← field; qs ← pairs; give (lin i p qs))
+
+abbrev pub delLine : LineKind
+delLine = (bytes "del", do i ← number; give (del i))
+
+abbrev pub extLine : LineKind
+extLine = (bytes "ext", do i ← number; v ← number; p ← field; give (ext i v p))
+
 -- no two keywords begin with the same byte
-unfoldable pub kinds : List (Bytes × Reader Statement)
-kinds =
-    (bytes "ring", do k ← number; give (ring k))
-    ∷ (bytes "in", do i ← number; p ← field; give (input i p))
-    ∷ (bytes "goal", do p ← field; give (goal p))
-    ∷ (bytes "lin", do i ← number; p ← field; tab; q ← pair; qs ← each (code "\t") pair; give (lin i p (q ∷ qs)))
-    ∷ (bytes "del", do i ← number; give (del i))
-    ∷ (bytes "ext", do i ← number; v ← number; p ← field; give (ext i v p))
-    ∷ []
+unfoldable pub kinds : List LineKind
+kinds = ringLine ∷ inputLine ∷ goalLine ∷ linLine ∷ delLine ∷ extLine ∷ []
 
 unfoldable pub beginsAlike : Bytes → Bytes → Bool
 beginsAlike [] s = false
@@ -127,7 +157,7 @@ beginsAlike (c ∷ w) [] = false
 beginsAlike (c ∷ w) (b ∷ s) = eqb b c
 
 -- the kind whose keyword begins as the line does
-unfoldable pub oneOf : List (Bytes × Reader Statement) → Reader Statement
+unfoldable pub oneOf : List LineKind → Reader Statement
 oneOf [] s = stuck s
 oneOf (k ∷ ks) s = let read : Read Statement = (do literal (k .0); st ← k .1; end; give st) s in cond (beginsAlike (k .0) s) read (oneOf ks s)
 

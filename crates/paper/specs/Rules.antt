@@ -1,20 +1,14 @@
 -- When a statement is refused, in the order of the verdicts, and what one that stands changes.
-use mathlib.Core.{Path._≡_, Bool.Bool, Bool.cond, Bool.false, Bool._||_, Bool.not, List.List, List.[], List._∷_, List._++_, List.map}
+use mathlib.Core.{Path._≡_, Bool.Bool, Bool.cond, Bool.false, Bool._||_, Bool.not, List.List, List.[], List._∷_, List._++_}
 use Prim.Native.Nat.{ℕ, _+_, _*_, _^_}
 use lib.{Dec.eqb, Dec.leb, Dec.ltb, ListN.length, Bits.bitOr}
 use Rattle.limits.specs.Limits.{storedPolynomials, lineProducts}
 use Rattle.limits.specs.Verdicts.{ACCEPTED, NUMBER, TERMS, ORDER, TAKEN, MISSING, SEEN, PRODUCTS, MISMATCH, NOTBIT, FULL}
 use Rattle.ground.specs.Lists.{any, total, every}
-use Rattle.algebra.specs.Polynomial.{Poly, vars, equal, products, reduce, product, extension, allVars, has}
-use Rattle.paper.specs.Statement.{Pair, Statement, ring, input, goal, lin, del, ext, onRing, onInput, onGoal, onLin, onDel, onExt, newIndex, namedIndices, fields, numbersInRange, tooManyTerms, reduced}
+use Rattle.algebra.specs.Polynomial.{Poly, vars, equal, products, reduce, product, extension, has}
+use Rattle.paper.specs.Statement.{Written, Pair, Ring, modulo, bits, Statement, ring, input, goal, lin, del, ext, onRing, onInput, onGoal, onLin, onExt, newIndex, namedIndices, forgets, fields, numbersInRange, tooManyTerms, reduced}
 
--- ---- the state between two lines; its ring is the integers modulo 2 ^ k
-pub data Ring : Type 0 where
-  modulo : ℕ → Ring
-
-abbrev pub bits : Ring → ℕ
-bits (modulo k) = k
-
+-- ---- the state between two lines
 -- the phases: before the ring line, before the goal line, after it
 abbrev pub opening : ℕ
 opening = 0
@@ -53,6 +47,11 @@ unfoldable pub remove : Store → ℕ → Store
 remove [] i = []
 remove (e ∷ s) i = cond (eqb i (e .index)) s (e ∷ remove s i)
 
+-- without what a list of indices names
+unfoldable pub without : List ℕ → Store → Store
+without [] s = s
+without (i ∷ is) s = without is (remove s i)
+
 unfoldable pub storedTerms : Store → ℕ
 storedTerms s = total (λ e. length (e .poly)) s
 
@@ -72,16 +71,24 @@ start = record { phase = opening; ring = modulo 0; store = []; seen = 0; goal = 
 
 -- ---- what a statement does; first, where it may stand
 unfoldable pub place : Statement → ℕ
-place st = elim st [ ring k ↦ opening | input i p ↦ inputs | goal p ↦ inputs | lin i p qs ↦ steps | del i ↦ steps | ext i v p ↦ steps ]
+place st = elim st [ ring r ↦ opening | input i p ↦ inputs | goal p ↦ inputs | lin i p qs ↦ steps | del i ↦ steps | ext i v p ↦ steps ]
 
 module _ (k : ℕ) where
   -- what a statement stores: an ext -v + p, the others the polynomial they state
   unfoldable pub entries : Statement → Store
-  entries st = elim st [ ring j ↦ [] | input i p ↦ entry i (reduced k p) | goal p ↦ [] | lin i p qs ↦ entry i (reduced k p) | del i ↦ [] | ext i v p ↦ entry i (extension k v (reduced k p)) ]
+  entries st = elim st [ ring r ↦ [] | input i p ↦ entry i (reduced k p) | goal p ↦ [] | lin i p qs ↦ entry i (reduced k p) | del i ↦ [] | ext i v p ↦ entry i (extension k v (reduced k p)) ]
 
-  -- the variables that a statement makes seen: all that its reduced polynomials hold, and the v of an ext
+  -- the variables that a field makes seen: those of the reduced polynomial
+  unfoldable pub shows : Written → ℕ
+  shows p = vars (reduced k p)
+
+  unfoldable pub showsAll : List Written → ℕ
+  showsAll [] = 0
+  showsAll (p ∷ ps) = bitOr (shows p) (showsAll ps)
+
+  -- the variables that a statement makes seen: those of its fields, and the v of an ext
   unfoldable pub makesSeen : Statement → ℕ
-  makesSeen st = bitOr (onExt 0 (λ i v p. 2 ^ v) st) (allVars (map (reduced k) (fields st)))
+  makesSeen st = bitOr (onExt 0 (λ i v p. 2 ^ v) st) (showsAll (fields st))
 
   -- the sum of factor times named polynomial
   unfoldable pub combination : (ℕ → Poly) → List Pair → Poly
@@ -111,11 +118,11 @@ rules capacity s st =
     ∷ (ORDER, not (eqb (place st) (s .phase)))
     ∷ (TAKEN, any (stored (s .store)) (newIndex st))
     ∷ (MISSING, not (every (stored (s .store)) (namedIndices st)))
-    ∷ (SEEN, onExt false (λ i v p. has (bitOr (vars (reduced k p)) (s .seen)) v) st)
+    ∷ (SEEN, onExt false (λ i v p. has (bitOr (shows k p) (s .seen)) v) st)
     ∷ (PRODUCTS, ltb lineProducts (productCount k (find (s .store)) st))
     ∷ (MISMATCH, onLin false (λ i p qs. not (equal (reduced k p) (reduce k (combination k (find (s .store)) qs)))) st)
     ∷ (NOTBIT, onExt false (λ i v p. not (equal (product k (reduced k p) (reduced k p)) (reduced k p))) st)
-    ∷ (FULL, overfull capacity (s .store) (entries k st))
+    ∷ (FULL, overfull capacity (without (forgets st) (s .store)) (entries k st))
     ∷ []
 
 -- ---- what a statement that stands changes; nothing is reached before the goal line; first, whether some stored polynomial is g
@@ -126,9 +133,9 @@ unfoldable pub after : State → Statement → State
 after s st =
     let k : ℕ = bits (s .ring) in
     record {
-      phase = onRing (onGoal (s .phase) (λ p. steps) st) (λ j. inputs) st;
-      ring = onRing (s .ring) (λ j. modulo j) st;
-      store = onDel (s .store ++ entries k st) (λ i. remove (s .store) i) st;
+      phase = onRing (onGoal (s .phase) (λ p. steps) st) (λ r. inputs) st;
+      ring = onRing (s .ring) (λ r. r) st;
+      store = without (forgets st) (s .store) ++ entries k st;
       seen = bitOr (makesSeen k st) (s .seen);
       goal = onGoal (s .goal) (λ p. reduced k p) st;
       reached = onGoal (onInput (s .reached || holdsGoal (s .goal) (entries k st)) (λ i p. false) st) (λ p. holdsGoal (reduced k p) (s .store)) st;

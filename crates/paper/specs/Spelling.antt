@@ -6,7 +6,7 @@ use Rattle.limits.specs.Limits.{variables, lineBytes, leastSpellingScratch}
 use Rattle.limits.specs.Verdicts.{ACCEPTED, SHORT, LONGLINE, FORM, NUMBER, TERMS, FULL}
 use Rattle.ground.specs.Lists.{gather}
 use Rattle.algebra.specs.Polynomial.{members, Term, Poly}
-use Rattle.paper.specs.Statement.{Written, isRing, inRange, tooManyTerms, reduced}
+use Rattle.paper.specs.Statement.{Written, modulo, isRing, inRange, tooManyTerms, reduced}
 use Rattle.paper.specs.Grammar.{Bytes, bytes, Read, got, stuck, Reader, _>>=_, _>>_, give, end, polynomial}
 use Rattle.paper.specs.Rules.{first}
 
@@ -42,7 +42,7 @@ refuse v = record { verdict = v; spelling = [] }
 
 unfoldable pub spellingRules : ℕ → ℕ → Written → List (ℕ × Bool)
 spellingRules k room p =
-    (NUMBER, not (isRing k && inRange p))
+    (NUMBER, not (isRing (modulo k) && inRange p))
     ∷ (TERMS, tooManyTerms p)
     ∷ (FULL, ltb room (length (spell k (reduced k p))))
     ∷ []

@@ -19,8 +19,15 @@ pub record Pair : Type 0 where
   pub index : ℕ
   pub factor : Written
 
+-- the integers modulo 2 ^ k
+pub data Ring : Type 0 where
+  modulo : ℕ → Ring
+
+abbrev pub bits : Ring → ℕ
+bits (modulo k) = k
+
 pub data Statement : Type 0 where
-  ring : ℕ → Statement
+  ring : Ring → Statement
   input : ℕ → Written → Statement
   goal : Written → Statement
   lin : ℕ → Written → List Pair → Statement
@@ -29,40 +36,44 @@ pub data Statement : Type 0 where
 
 -- f says it of a statement of one kind, and it is x of every other
 module _ {A : Type 0} (x : A) where
-  abbrev pub onRing : (ℕ → A) → Statement → A
-  onRing f st = elim st [ ring k ↦ f k | input i p ↦ x | goal p ↦ x | lin i p qs ↦ x | del i ↦ x | ext i v p ↦ x ]
+  abbrev pub onRing : (Ring → A) → Statement → A
+  onRing f st = elim st [ ring r ↦ f r | input i p ↦ x | goal p ↦ x | lin i p qs ↦ x | del i ↦ x | ext i v p ↦ x ]
 
   abbrev pub onInput : (ℕ → Written → A) → Statement → A
-  onInput f st = elim st [ ring k ↦ x | input i p ↦ f i p | goal p ↦ x | lin i p qs ↦ x | del i ↦ x | ext i v p ↦ x ]
+  onInput f st = elim st [ ring r ↦ x | input i p ↦ f i p | goal p ↦ x | lin i p qs ↦ x | del i ↦ x | ext i v p ↦ x ]
 
   abbrev pub onGoal : (Written → A) → Statement → A
-  onGoal f st = elim st [ ring k ↦ x | input i p ↦ x | goal p ↦ f p | lin i p qs ↦ x | del i ↦ x | ext i v p ↦ x ]
+  onGoal f st = elim st [ ring r ↦ x | input i p ↦ x | goal p ↦ f p | lin i p qs ↦ x | del i ↦ x | ext i v p ↦ x ]
 
   abbrev pub onLin : (ℕ → Written → List Pair → A) → Statement → A
-  onLin f st = elim st [ ring k ↦ x | input i p ↦ x | goal p ↦ x | lin i p qs ↦ f i p qs | del i ↦ x | ext i v p ↦ x ]
+  onLin f st = elim st [ ring r ↦ x | input i p ↦ x | goal p ↦ x | lin i p qs ↦ f i p qs | del i ↦ x | ext i v p ↦ x ]
 
   abbrev pub onDel : (ℕ → A) → Statement → A
-  onDel f st = elim st [ ring k ↦ x | input i p ↦ x | goal p ↦ x | lin i p qs ↦ x | del i ↦ f i | ext i v p ↦ x ]
+  onDel f st = elim st [ ring r ↦ x | input i p ↦ x | goal p ↦ x | lin i p qs ↦ x | del i ↦ f i | ext i v p ↦ x ]
 
   abbrev pub onExt : (ℕ → ℕ → Written → A) → Statement → A
-  onExt f st = elim st [ ring k ↦ x | input i p ↦ x | goal p ↦ x | lin i p qs ↦ x | del i ↦ x | ext i v p ↦ f i v p ]
+  onExt f st = elim st [ ring r ↦ x | input i p ↦ x | goal p ↦ x | lin i p qs ↦ x | del i ↦ x | ext i v p ↦ f i v p ]
 
 -- the index that a statement takes, those that it names, and the polynomials that it writes
 unfoldable pub newIndex : Statement → List ℕ
-newIndex st = elim st [ ring k ↦ [] | input i p ↦ i ∷ [] | goal p ↦ [] | lin i p qs ↦ i ∷ [] | del i ↦ [] | ext i v p ↦ i ∷ [] ]
+newIndex st = elim st [ ring r ↦ [] | input i p ↦ i ∷ [] | goal p ↦ [] | lin i p qs ↦ i ∷ [] | del i ↦ [] | ext i v p ↦ i ∷ [] ]
 
 unfoldable pub namedIndices : Statement → List ℕ
-namedIndices st = elim st [ ring k ↦ [] | input i p ↦ [] | goal p ↦ [] | lin i p qs ↦ map (λ q. q .index) qs | del i ↦ i ∷ [] | ext i v p ↦ [] ]
+namedIndices st = elim st [ ring r ↦ [] | input i p ↦ [] | goal p ↦ [] | lin i p qs ↦ map (λ q. q .index) qs | del i ↦ i ∷ [] | ext i v p ↦ [] ]
+
+-- the indices that it forgets
+unfoldable pub forgets : Statement → List ℕ
+forgets st = elim st [ ring r ↦ [] | input i p ↦ [] | goal p ↦ [] | lin i p qs ↦ [] | del i ↦ i ∷ [] | ext i v p ↦ [] ]
 
 unfoldable pub fields : Statement → List Written
-fields st = elim st [ ring k ↦ [] | input i p ↦ p ∷ [] | goal p ↦ p ∷ [] | lin i p qs ↦ p ∷ map (λ q. q .factor) qs | del i ↦ [] | ext i v p ↦ p ∷ [] ]
+fields st = elim st [ ring r ↦ [] | input i p ↦ p ∷ [] | goal p ↦ p ∷ [] | lin i p qs ↦ p ∷ map (λ q. q .factor) qs | del i ↦ [] | ext i v p ↦ p ∷ [] ]
 
 -- ---- ranges
 abbrev pub within : ℕ → ℕ → ℕ → Bool
 within low high n = leb low n && leb n high
 
-unfoldable pub isRing : ℕ → Bool
-isRing k = within 1 greatestRing k
+unfoldable pub isRing : Ring → Bool
+isRing (modulo k) = within 1 greatestRing k
 
 unfoldable pub isIndex : ℕ → Bool
 isIndex i = within 1 greatestIndex i

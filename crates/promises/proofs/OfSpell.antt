@@ -13,12 +13,9 @@ use Rattle.ground.proofs.Tests.{split, by-cond, and-left, and-right, cond-no}
 use Rattle.limits.specs.Limits.{lineBytes, fieldTerms, leastSpellingScratch}
 use Rattle.limits.specs.Verdicts.{ACCEPTED, SHORT, LONGLINE, FORM, NUMBER, TERMS, FULL}
 use Rattle.paper.specs.Grammar.{Bytes, Read, got, stuck}
-use Rattle.paper.specs.Statement.{Written, isRing, inRange, tooManyTerms, reduced}
+use Rattle.paper.specs.Statement.{Written, modulo, isRing, inRange, tooManyTerms, reduced}
 use Rattle.paper.specs.Spelling.{Spelled, refuse, spell, spellRead, wholeField, spellField, outputAfter}
 use Rattle.paper.proofs.Ranges.{ring-some}
-use Rattle.reader.specs.Fields.{fewTerms}
-use Rattle.fields.proofs.Ranges.{is-field}
-use Rattle.fields.proofs.Taking.{same-value}
 use Rattle.speller.specs.Spells.{Gives, fitted, Accepts}
 use Rattle.speller.specs.declared.Spelled.{Spelled as Answer}
 use Rattle.speller.proofs.Judging.{request-number, request-terms, request-fitted, accepted-fitted}
@@ -29,7 +26,7 @@ use Rattle.promises.proofs.Spelling.{read-back, reduced-few, reduced-fi
 
 -- ---- by the verdict: refused before any room is looked at, or as the output has room
 module _ (P : Spelled → Type 0) (field : Bytes) (k room : ℕ) (refused : (v : ℕ) → (v ≡ ACCEPTED → ⊥) → (v ≡ FULL → ⊥) → P (refuse v))
-    (fits : length field ≤ lineBytes → isRing k ≡ true → (f : Written) → Says field f → P (fitted (spell k (reduced k f)) room)) where
+    (fits : length field ≤ lineBytes → isRing (modulo k) ≡ true → (f : Written) → Says field f → P (fitted (spell k (reduced k f)) room)) where
   by-read : length field ≤ lineBytes → (r : Read Written) → wholeField field ≡ r → P (spellRead k room r)
   unfolding spellRead tooManyTerms
   by-read l (stuck s) e = refused FORM (λ z. omega arith) (λ z. omega arith)
@@ -39,11 +36,11 @@ module _ (P : Spelled → Type 0) (field : Bytes) (k room : ℕ) (refused : (v :
       (⊎-elim
       (λ r. ⊎-elim
       (λ t. subst P (sym (request-terms k room f r t)) (refused TERMS (λ z. omega arith) (λ z. omega arith)))
-      (λ t. subst P (sym (request-fitted k room f r t)) (fits l (and-left (isRing k) (inRange f) r) f
-      (record { reads = e ∙ ap (got f) (w .1); range = and-right (isRing k) (inRange f) r; few = ltb-false fieldTerms (length f) t })))
+      (λ t. subst P (sym (request-fitted k room f r t)) (fits l (and-left (isRing (modulo k)) (inRange f) r) f
+      (record { reads = e ∙ ap (got f) (w .1); range = and-right (isRing (modulo k)) (inRange f) r; few = ltb-false fieldTerms (length f) t })))
       (split (tooManyTerms f)))
       (λ r. subst P (sym (request-number k room f r)) (refused NUMBER (λ z. omega arith) (λ z. omega arith)))
-      (split (isRing k && inRange f)))
+      (split (isRing (modulo k) && inRange f)))
 
   by-verdict : (scratch : ℕ) → P (spellField field k scratch room)
   unfolding spellField
@@ -56,7 +53,7 @@ module _ (P : Spelled → Type 0) (field : Bytes) (k room : ℕ) (refused : (v :
 record Accepted (field : Bytes) (k : ℕ) (s : Bytes) : Type 0 where
   value : Written
   says : Says field value
-  ring : isRing k ≡ true
+  ring : isRing (modulo k) ≡ true
   short : length field ≤ lineBytes
   spelled : s ≡ spell k (reduced k value)
 
@@ -105,9 +102,9 @@ spelled-reads-back field k s w =
 
 -- ---- spelled again
 -- a field with room for its spelling
-field-spelled : (s : Bytes) (k scratch room : ℕ) (f : Written) → isRing k ≡ true → Says s f → leastSpellingScratch ≤ scratch → length s ≤ lineBytes
+field-spelled : (s : Bytes) (k scratch room : ℕ) (f : Written) → isRing (modulo k) ≡ true → Says s f → leastSpellingScratch ≤ scratch → length s ≤ lineBytes
     → length (spell k (reduced k f)) ≤ room → spellField s k scratch room ≡ record { verdict = ACCEPTED; spelling = spell k (reduced k f) }
-unfolding spellField fitted fewTerms tooManyTerms
+unfolding spellField fitted tooManyTerms
 field-spelled s k scratch room f e y h l r =
     rw (le-ltb scratch leastSpellingScratch h, le-ltb lineBytes (length s) l)
     (accepted-fitted s k room a ∙ cond-no (ltb room (length (spell k (reduced k f)))) (refuse FULL) _ (le-ltb room (length (spell k (reduced k f))) r))
@@ -116,7 +113,8 @@ field-spelled s k scratch room f e y h l r =
     a = record {
       value = f;
       reads = whole-polynomial s f [] (y .reads) .0;
-      passes = is-field f (y .range) (rw (le-ltb fieldTerms (length f) (y .few)));
+      ranged = y .range;
+      short = le-ltb fieldTerms (length f) (y .few);
       ring = e;
     }
 
@@ -130,6 +128,9 @@ spelled-again field k s w l scratch out r scratch′ out′ h o c =
     (c .gives .verdict ∙ ap (λ (y : Spelled). y .verdict) x, bytes-written (spellField s k (length scratch) (length out)) out out′ r (c .gives) ∙ ap (λ (y : Spelled). y .spelling) x ∙ same)
 
 -- ---- alike
+same-value : {r : Read Written} {f g : Written} {s t : Bytes} → r ≡ got f s → r ≡ got g t → f ≡ g
+same-value p q = let e = sym p ∙ q in cc
+
 pub spelled-alike : SpelledAlike
 spelled-alike k a b s t f g w u ef eg =
     let x = accepted a k s w in

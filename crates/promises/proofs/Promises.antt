@@ -18,10 +18,10 @@ use Rattle.algebra.proofs.Reduced.{is-reduce}
 use Rattle.algebra.proofs.OneForm.{one-form}
 use Rattle.algebra.proofs.Bit.{bit-cases, value-lt}
 use Rattle.algebra.proofs.Derivation.{derived-zero, derived-goal}
-use Rattle.paper.specs.Grammar.{Bytes, lines}
+use Rattle.paper.specs.Grammar.{Bytes}
 use Rattle.paper.specs.Statement.{Statement}
 use Rattle.paper.specs.Rules.{start}
-use Rattle.paper.specs.Answer.{Answer, run, capacityOf, unread, answer, statements, ringIn, accepted}
+use Rattle.paper.specs.Answer.{items, Answer, run, capacityOf, unread, answer, statements, ringIn, accepted}
 use Rattle.paper.proofs.Steps.{ran, opened}
 use Rattle.paper.proofs.Accepted.{sound-steps}
 use Rattle.paper.proofs.Counts.{counted-steps}
@@ -54,7 +54,7 @@ pub definitions-can-be-met : DefinitionsCanBeMet
 definitions-can-be-met k is ps es d a h = let z = derived-zero k d a h in (z .now, z .only, z .null)
 
 -- what is promised of a text that was run, is promised of its answer
-by-answer : (P : Answer → Type 0) (text : Bytes) (pool scratch : ℕ) → P (unread SHORT) → P (unread LONGTEXT) → P (run (capacityOf pool) start 0 (lines text))
+by-answer : (P : Answer → Type 0) (text : Bytes) (pool scratch : ℕ) → P (unread SHORT) → P (unread LONGTEXT) → P (run (capacityOf pool) start 0 (items text))
     → P (answer text pool scratch)
 unfolding answer
 by-answer P text pool scratch short long whole =
@@ -65,9 +65,9 @@ unfolding unread statements
 accepted-is-sound text pool scratch =
     by-answer (λ (a : Answer). a .verdict ≡ 0 → Sound (statements text) (ringIn (statements text))) text pool scratch (λ e. absurd (omega arith)) (λ e. absurd (omega arith)) whole
   where
-    whole : run (capacityOf pool) start 0 (lines text) .verdict ≡ 0 → Sound (statements text) (ringIn (statements text))
+    whole : run (capacityOf pool) start 0 (items text) .verdict ≡ 0 → Sound (statements text) (ringIn (statements text))
     whole e =
-        let r = ran (capacityOf pool) start 0 (lines text) in
+        let r = ran (capacityOf pool) start 0 (items text) in
         let s = sound-steps (capacityOf pool) (opened (capacityOf pool) (r .went) refl) (r .phase e) (r .reached e) in
         subst (λ (sts : List Statement). Sound sts (ringIn sts)) (r .all e)
         (record { forced = s .goal-zero; met = λ a z. (s .all-zero a z .now, s .all-zero a z .only, s .all-zero a z .null) })
@@ -78,9 +78,9 @@ counts-are-sums text pool scratch =
     by-answer (λ (a : Answer). (a .verdict ≡ SHORT → ⊥) → (a .verdict ≡ LONGTEXT → ⊥) → Counted a (accepted text pool) (ringIn (accepted text pool))) text pool scratch
     (λ n m. absurd (n refl)) (λ n m. absurd (m refl)) (λ n m. whole)
   where
-    whole : Counted (run (capacityOf pool) start 0 (lines text)) (accepted text pool) (ringIn (accepted text pool))
+    whole : Counted (run (capacityOf pool) start 0 (items text)) (accepted text pool) (ringIn (accepted text pool))
     whole =
-        let r = ran (capacityOf pool) start 0 (lines text) in
+        let r = ran (capacityOf pool) start 0 (items text) in
         let c = counted-steps (capacityOf pool) (opened (capacityOf pool) (r .went) refl) in
-        subst (λ (h : List Statement). Counted (run (capacityOf pool) start 0 (lines text)) h (ringIn h)) (sym (r .hear []))
+        subst (λ (h : List Statement). Counted (run (capacityOf pool) start 0 (items text)) h (ringIn h)) (sym (r .hear []))
         (record { products = r .products ∙ c .products; polynomials = omega (arith, r .polynomials, c .polynomials); terms = omega (arith, r .terms, c .terms) })

@@ -16,7 +16,7 @@ use Rattle.algebra.specs.Polynomial.{members, Term, Poly, value, put, insert, r
 use Rattle.algebra.proofs.Reduced.{reduced-reduce}
 use Rattle.algebra.proofs.OneForm.{one-form}
 use Rattle.paper.specs.Grammar.{got}
-use Rattle.paper.specs.Statement.{Written, within, isRing, isVariable, isTerm, inRange, asTerm, reduced}
+use Rattle.paper.specs.Statement.{Written, within, modulo, isRing, isVariable, isTerm, inRange, asTerm, reduced}
 use Rattle.paper.specs.Spelling.{spell, wholeField}
 use Rattle.paper.proofs.Ranges.{ring-most}
 use Rattle.paper.proofs.ReadBack.{writtenTerm, spell-back}
@@ -34,14 +34,14 @@ members-range (suc n) v m h =
     (λ _. and-both (isVariable v) (every isVariable (members n (suc v) (m / 2))) (lt-ltb v variables (omega arith)) ih) (λ _. ih)
 
 module _ (k : ℕ) where
-  magnitude-range : (t : Term) → isRing k ≡ true → 0 < t .coef → t .coef < 2 ^ k → within 1 greatestMagnitude (writtenTerm k t .magnitude) ≡ true
+  magnitude-range : (t : Term) → isRing (modulo k) ≡ true → 0 < t .coef → t .coef < 2 ^ k → within 1 greatestMagnitude (writtenTerm k t .magnitude) ≡ true
   unfolding writtenTerm
   magnitude-range t e h l =
       let w : 2 ^ k ≤ 2 ^ 64 = pow-le-pow-right {n = 2} (omega arith) {i = k} {j = 64} (ring-most k e) in
       by-cond (λ (m : ℕ). within 1 greatestMagnitude m ≡ true) (leb (t .coef) (2 ^ (k - 1)))
       (λ _. within-yes 1 greatestMagnitude (t .coef) (omega arith) (omega arith)) (λ _. within-yes 1 greatestMagnitude (2 ^ k - t .coef) (omega arith) (omega arith))
 
-  spelled-range : (b : ℕ) (p : Poly) → isRing k ≡ true → Reduced k b p → inRange (map (writtenTerm k) p) ≡ true
+  spelled-range : (b : ℕ) (p : Poly) → isRing (modulo k) ≡ true → Reduced k b p → inRange (map (writtenTerm k) p) ≡ true
   unfolding inRange every isTerm writtenTerm
   spelled-range b [] e r = refl
   spelled-range b (t ∷ p) e r =

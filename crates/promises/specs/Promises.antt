@@ -5,7 +5,7 @@ use lib.ListN.{length, take}
 use Rattle.limits.specs.Limits.{variables, lineBytes, fieldTerms, leastSpellingScratch}
 use Rattle.limits.specs.Verdicts.{ACCEPTED, SHORT, LONGTEXT, FULL}
 use Rattle.algebra.specs.Polynomial.{DifferOnlyAt, Apart, Poly, value, vars, coefOf, reduce, product, Below, Reduced, AllZero, Forced, Derived}
-use Rattle.paper.specs.Statement.{Written, Statement, isRing, inRange, asTerm, reduced}
+use Rattle.paper.specs.Statement.{Written, Statement, modulo, isRing, inRange, asTerm, reduced}
 use Rattle.paper.specs.Grammar.{Bytes, got}
 use Rattle.paper.specs.Answer.{Answer, answer, statements, ringIn, definedIn, inputsIn, goalIn, introducedIn, accepted, productsIn, introducedPolynomials, deletedPolynomials, introducedTerms, deletedTerms}
 use Rattle.paper.specs.Spelling.{spell, wholeField}
@@ -78,7 +78,7 @@ HostedIsSound = (text : Bytes) (r : ℕ) → Hosted text r → r ≡ ACCEPTED �
 
 -- ---- spelling: read as a whole field it gives as many terms, with every number in range, and they mean the polynomial that it came from
 abbrev pub ReadBack : Type 0
-ReadBack = (k : ℕ) (p : Poly) → isRing k ≡ true → Reduced k (2 ^ variables) p
+ReadBack = (k : ℕ) (p : Poly) → isRing (modulo k) ≡ true → Reduced k (2 ^ variables) p
     → (f : Written) × (wholeField (spell k p) ≡ got f []) × (inRange f ≡ true) × (length f ≡ length p) × (reduced k f ≡ p)
 
 -- ---- the code: a call of `spell` that accepted the field at k and wrote s, by the contract `Spells`

@@ -1,249 +1,252 @@
--- Where the fields of a well-formed line stand. Assumes nothing.
-use mathlib.Core.Path.{_≡_, refl, sym, ap, ap₂, _∙_}
-use mathlib.Core.Bool.{Bool, true, false, cond}
+-- Signs, variables, terms and polynomials as they are read at places of a line. Assumes nothing.
+use mathlib.Core.Path.{_≡_, refl, sym, ap, subst, _∙_}
+use mathlib.Core.Bool.{Bool, true, false, _&&_, cond}
 use mathlib.Core.Logic.{_⊎_, inl, inr, ⊎-elim}
-use mathlib.Core.List.{List, [], _∷_}
-use Prim.Native.Nat.{ℕ, suc, _+_, _≤_, _<_}
+use mathlib.Core.List.{List, [], _∷_, _++_}
+use Prim.Native.Nat.{ℕ, _+_, _-_, _%_, _^_, _≤_, _<_}
 use Prim.Native.Char.{code}
+use native.Mathlib.Nat.{add-zero}
+use native.Mathlib.Numerals.{add-one}
 use native.Mathlib.Omega.{arith}
-use lib.ListN.{length, take, drop, getD, length-drop}
-use lib.Seq.{drop-cons, drop-drop}
-use Rattle.paper.specs.Grammar.{Bytes, bytes, Read, got, stuck, Reader, next, give, literal, end, decimal, polynomial, tab, number, field, pair, kinds, beginsAlike, oneOf, statement}
-use Rattle.paper.specs.Statement.{Written, Pair, Statement, ring, input, goal, lin, del, ext}
-use Rattle.paper.proofs.Reading.{clash, next-assoc, parted, Takes, literal-inside, takes-decimal, takes-polynomial, takes-pair, each-more}
-use Rattle.reader.specs.Places.{Got}
-use Rattle.reader.specs.Lines.{LineKind, headed, morePairs, rings, inputs, goals, lins, dels, exts, kindOf}
-use Rattle.reader.specs.declared.line.Kind.the-variants.{Ring, Input, Goal, Lin, Del, Ext}
+use lib.Bits.{bitOr, or-comm}
+use lib.Dec.{eqb, leb, ltb}
+use lib.ListN.{length, drop, getD, replicate, drop-of-length-le}
+use lib.Seq.{drop-cons}
+use borrow.Author.Tests.{leb-true, le-leb, ltb-true, ltb-false, lt-ltb, le-ltb, eq-eqb, ne-eqb, eqb-true, eqb-false}
+use Rattle.ground.specs.Lists.{gather}
+use Rattle.ground.proofs.Tests.{bool-ext, split, and-left, and-right, and-both, cond-yes, cond-no}
+use Rattle.limits.specs.Limits.{setWords, variables}
+use Rattle.limits.specs.Verdicts.{ACCEPTED, FORM, NUMBER}
+use Rattle.algebra.proofs.Unions.{or-assoc}
+use Rattle.words.specs.Words.{number}
+use Rattle.terms.specs.Terms.{termOf}
+use Rattle.written.specs.Worded.{signedWord, wordedTerm}
+use Rattle.paper.specs.Grammar.{Bytes, got, Reader, each, decimal, sign, term, moreVariables}
+use Rattle.paper.specs.Statement.{within, isVariable, setOf}
+use Rattle.paper.specs.Spelling.{spellNumber}
+use Rattle.paper.proofs.Reading.{takes-decimal, each-stop, each-end}
+use Rattle.reader.specs.Places.{Got, Fails}
+use Rattle.reader.specs.Numbers.{InRange, OutOfRange}
+use Rattle.reader.specs.Marks.{Mark, mark, variableMarks, termMarks}
+use Rattle.reader.specs.Fields.{standsAt, firstOf, Told, Took, Part, VariablesAt, MagnitudeAt, TermAt}
+use Rattle.reader.specs.declared.term.Variables.{Variables}
+use Rattle.reader.specs.declared.term.Magnitude.{Magnitude}
+use Rattle.reader.specs.declared.term.TermRead.{TermRead}
+use Rattle.reader.specs.declared.number.Refusal.{Refusal}
+use Rattle.reader.proofs.Numbers.{within-yes, RefusedAs}
+use Rattle.reader.proofs.Widths.{decimal-ends}
+use Rattle.reader.proofs.Marks.{told-none, told-then, told-fine, told-out, told-read, told-lead, both-accepted, mark-fine, mark-outside, gather-last}
+use Rattle.reader.proofs.Following.{got-then, got-give, fails-then, fails-first, Passed, passed-none, passed-more, passed-stuck}
 
--- ---- places of readings
--- where a reading ends
-pub placed : {A : Type 0} {allowed : ℕ → Bool} {n : ℕ} (read : Reader A) → Takes allowed n read → (s : Bytes) (at : ℕ) → at ≤ length s → (x : A) (r : Bytes)
-    → read (drop at s) ≡ got x r → (e : ℕ) × (at + n ≤ e) × Got read s at x e × (r ≡ drop e s)
-placed read t s at h x r q =
-    let a = t (drop at s) x r q in
-    let l = a .least in
-    let i = a .inside in
-    let d : r ≡ drop (at + a .taken) s = a .rest ∙ drop-drop (a .taken) at s in
-    (at + a .taken, omega arith, record { reads = q ∙ ap (λ (l : Bytes). got x l) d; onward = omega arith; inside = omega (arith, length-drop at s) }, d)
+-- ---- a part: it stops, or it is read
+module _ {A : Type 0} {read : Reader A} {marks : A → List Mark} {P : A → Type 0} {s : Bytes} {at e why byte : ℕ} (p : Part read marks P s at e why byte) where
+  pub part-stuck : why ≡ FORM → Fails read s at e
+  part-stuck f = ⊎-elim (λ q. q .1) (λ q. absurd (told-read (q .told) f)) p
 
--- a place is known by what stands from it on
-pub same-place : (s : Bytes) (p q : ℕ) → p ≤ length s → q ≤ length s → drop p s ≡ drop q s → p ≡ q
-same-place s p q h k e = omega (arith, ap length e, length-drop p s, length-drop q s)
+  pub part-took : (why ≡ FORM → ⊥) → Took read marks P s at e why byte
+  part-took f = ⊎-elim (λ q. absurd (f (q .0))) (λ q. q) p
 
--- a reading has one end
-pub same-end : {A : Type 0} (read : Reader A) (s : Bytes) (at : ℕ) {x y : A} {d e : ℕ} → Got read s at x d → Got read s at y e → (x ≡ y) × (d ≡ e)
-same-end read s at {x} {y} {d} {e} g h =
-    let p = g .reads in
-    let q = h .reads in
-    ((cc), same-place s d e (g .inside) (h .inside) (cc))
+-- ---- a byte that stands at a place, or does not
+module _ (s : Bytes) (at b : ℕ) where
+  pub stands : standsAt s at b ≡ true → (at < length s) × (getD s at 0 ≡ b)
+  unfolding standsAt
+  stands e =
+      let l = ltb at (length s) in
+      let f = eqb (getD s at 0) b in
+      (ltb-true at (length s) (and-left l f e), eqb-true (getD s at 0) b (and-right l f e))
 
-given : {A : Type 0} {x y : A} {s t : Bytes} → give x s ≡ got y t → (x ≡ y) × (s ≡ t)
-given e = ((cc), (cc))
+  stands-not : standsAt s at b ≡ false → ((at < length s) × (getD s at 0 ≡ b → ⊥)) ⊎ (length s ≤ at)
+  unfolding standsAt
+  stands-not e =
+      ⊎-elim
+      (λ l. inl (ltb-true at (length s) l, eqb-false (getD s at 0) b (sym (ap (λ (t : Bool). t && eqb (getD s at 0) b) l) ∙ e)))
+      (λ l. inr (ltb-false at (length s) l))
+      (split (ltb at (length s)))
 
--- a tab stands at m, and x is read behind it
-pub record Tabbed {A : Type 0} (read : Reader A) (s : Bytes) (m : ℕ) (x : A) (r : Bytes) : Type 0 where
-  pub inside : m < length s
-  pub tab : getD s m 0 ≡ 9
-  pub reads : read (drop (m + 1) s) ≡ got x r
+  pub stands-inside : at < length s → standsAt s at b ≡ eqb (getD s at 0) b
+  unfolding standsAt
+  stands-inside l = ap (λ (t : Bool). t && eqb (getD s at 0) b) (lt-ltb at (length s) l)
 
-tab-at : (s : Bytes) (m : ℕ) (u : Unit {0}) (r : Bytes) → tab (drop m s) ≡ got u r → (m < length s) × (getD s m 0 ≡ 9) × (r ≡ drop (m + 1) s)
-unfolding tab bytes
-tab-at s m u r e =
-    let h = literal-inside (bytes "\t") (drop m s) u r e in
-    let l : m < length s = omega (arith, h .0, length-drop m s) in
-    let d = drop-cons s m 0 l in
-    let t : take 1 (getD s m 0 ∷ drop (suc m) s) ≡ 9 ∷ [] = rw d at (h .2) in
-    (l, (cc), h .1 ∙ drop-drop 1 m s)
+  pub stands-end : length s ≤ at → standsAt s at b ≡ false
+  unfolding standsAt
+  stands-end l = ap (λ (t : Bool). t && eqb (getD s at 0) b) (le-ltb at (length s) l)
 
-pub tabbed : {A : Type 0} (read : Reader A) (s : Bytes) (m : ℕ) {x : A} {r : Bytes} → next (tab (drop m s)) (λ _. read) ≡ got x r → Tabbed read s m x r
-tabbed read s m {x} {r} e =
-    let p = parted (tab (drop m s)) (λ _. read) e in
-    let h = tab-at s m (p .value) (p .rest) (p .first) in
-    record { inside = h .0; tab = h .1; reads = ap read (sym (h .2)) ∙ p .second }
+-- no item follows
+pub each-over : {A : Type 0} (c : ℕ) (item : Reader A) (s : Bytes) (i : ℕ) → standsAt s i c ≡ false → each c item (drop i s) ≡ got [] (drop i s)
+each-over c item s i e = ⊎-elim (λ h. each-stop c item s i (h .0) (h .1)) (λ h. each-end c item s i h) (stands-not s i c e)
 
--- what a keyword leaves
-behind-word : {A : Type 0} (w s : Bytes) (read : Reader A) {x : A} {r : Bytes} → next (literal w s) (λ _. read) ≡ got x r → read (drop (length w) s) ≡ got x r
-behind-word w s read e =
-    let p = parted (literal w s) (λ _. read) e in
-    ap read (sym (literal-inside w s (p .value) (p .rest) (p .first) .1)) ∙ p .second
+-- ---- signs
+module _ (s : Bytes) (at : ℕ) where
+  sign-here : at < length s → getD s at 0 ≡ 45 → sign (drop at s) ≡ got true (drop (at + 1) s)
+  unfolding sign
+  sign-here h b = rw (drop-cons s at 0 h, eq-eqb (getD s at 0) 45 b, add-one at)
 
--- ---- the fields of each kind; r is what they leave
-pub record InputAt (s : Bytes) (i : ℕ) (p : Written) (r : Bytes) : Type 0 where
-  pub middle : ℕ
-  pub index : Tabbed decimal s 2 i (drop middle s)
-  pub onward : 3 < middle
-  pub polynomial : Tabbed polynomial s middle p r
+  sign-not : at < length s → (getD s at 0 ≡ 45 → ⊥) → sign (drop at s) ≡ got false (drop (at + 0) s)
+  unfolding sign
+  sign-not h b = rw (drop-cons s at 0 h, ne-eqb (getD s at 0) 45 b, add-zero at) (sym (ap (got false) (drop-cons s at 0 h)))
 
-pub record LinAt (s : Bytes) (i : ℕ) (p : Written) (qs : List Pair) (r : Bytes) : Type 0 where
-  pub middle : ℕ
-  pub index : Tabbed decimal s 3 i (drop middle s)
-  pub onward : 4 < middle
-  pub behind : ℕ
-  pub stated : Tabbed polynomial s middle p (drop behind s)
-  pub further : middle + 1 < behind
-  pub inside : behind < length s
-  pub tab : getD s behind 0 ≡ 9
-  pub pairs : morePairs (drop behind s) ≡ got qs r
+  sign-end : length s ≤ at → sign (drop at s) ≡ got false (drop (at + 0) s)
+  unfolding sign
+  sign-end h = rw (add-zero at, drop-of-length-le s h)
 
-pub record ExtAt (s : Bytes) (i v : ℕ) (p : Written) (r : Bytes) : Type 0 where
-  pub middle : ℕ
-  pub index : Tabbed decimal s 3 i (drop middle s)
-  pub onward : 4 < middle
-  pub behind : ℕ
-  pub variable : Tabbed decimal s middle v (drop behind s)
-  pub further : middle + 1 < behind
-  pub polynomial : Tabbed polynomial s behind p r
-
-abbrev pub FieldsAt : Bytes → Bytes → Statement → Type 0
-FieldsAt s r (ring k) = Tabbed decimal s 4 k r
-FieldsAt s r (input i p) = InputAt s i p r
-FieldsAt s r (goal p) = Tabbed polynomial s 4 p r
-FieldsAt s r (lin i p qs) = LinAt s i p qs r
-FieldsAt s r (del i) = Tabbed decimal s 3 i r
-FieldsAt s r (ext i v p) = ExtAt s i v p r
-
--- a value read behind a tab at m up to end, and what f reads from there on
-record Onward {A B : Type 0} (read : Reader A) (f : A → Reader B) (s : Bytes) (m : ℕ) (y : B) (r : Bytes) : Type 0 where
-  value : A
-  end : ℕ
-  tabbed : Tabbed read s m value (drop end s)
-  onward : m + 1 < end
-  more : f value (drop end s) ≡ got y r
-
-module _ {B : Type 0} (s : Bytes) (m : ℕ) {y : B} {r : Bytes} where
-  onward-tab : {A : Type 0} {allowed : ℕ → Bool} (read : Reader A) → Takes allowed 1 read → (f : A → Reader B) → next (next (tab (drop m s)) (λ _. read)) f ≡ got y r
-      → Onward read f s m y r
-  onward-tab read takes f e =
-      let p = parted (next (tab (drop m s)) (λ _. read)) f e in
-      let t = tabbed read s m (p .first) in
-      let l = t .inside in
-      let g = placed read takes s (m + 1) (omega arith) (p .value) (p .rest) (t .reads) in
+  pub sign-at : (b : Bool) → at ≤ length s → b ≡ standsAt s at 45 → Got sign s at b (at + cond b 1 0)
+  sign-at true l e =
+      let h = stands s at 45 (sym e) in
+      let i = h .0 in
+      record { reads = sign-here (h .0) (h .1); onward = omega arith; inside = omega arith }
+  sign-at false l e =
       record {
-        value = p .value;
-        end = g .0;
-        tabbed = record { inside = l; tab = t .tab; reads = g .2 .reads };
-        onward = omega (arith, g .1);
-        more = ap (f (p .value)) (sym (g .3)) ∙ p .second;
+        reads = ⊎-elim (λ h. sign-not (h .0) (h .1)) (λ h. sign-end h) (stands-not s at 45 (sym e));
+        onward = omega arith;
+        inside = omega arith;
       }
 
-  onward-number : (f : ℕ → Reader B) → next (number (drop m s)) f ≡ got y r → Onward decimal f s m y r
-  unfolding number
-  onward-number f e = onward-tab decimal takes-decimal f e
+pub signed-negative : (b : Bool) (c r : ℕ) → b ≡ true → r ≡ (2 ^ 64 - c) % 2 ^ 64 → r ≡ signedWord b c
+unfolding signedWord
+signed-negative b c r e q = q ∙ sym (cond-yes b ((2 ^ 64 - c) % 2 ^ 64) c e)
 
-  onward-field : (f : Written → Reader B) → next (field (drop m s)) f ≡ got y r → Onward polynomial f s m y r
-  unfolding field
-  onward-field f e = onward-tab polynomial takes-polynomial f e
+pub signed-positive : (b : Bool) (c : ℕ) → b ≡ false → c ≡ signedWord b c
+unfolding signedWord
+signed-positive b c e = sym (cond-no b ((2 ^ 64 - c) % 2 ^ 64) c e)
 
--- one pair more in front
-more-pairs : (s : Bytes) (m : ℕ) → m < length s → getD s m 0 ≡ 9 → {q : Pair} {qs : List Pair} {t r : Bytes} → pair (drop (m + 1) s) ≡ got q t → morePairs t ≡ got qs r
-    → morePairs (drop m s) ≡ got (q ∷ qs) r
-more-pairs s m h b {q} {qs} {t} {r} e f = each-more (code "\t") pair takes-pair s m h b q t e ∙ rw f
+-- ---- numbers
+module _ (low high : ℕ) (s : Bytes) (at before : ℕ) where
+  pub number-fine : {v e : ℕ} (i : ℕ) → i ≡ at + before → InRange decimal low high s i v e → Told (mark (within low high) before v ∷ []) at e ACCEPTED 0
+  number-fine {v} {e} i h r =
+      mark-fine (within low high) before v (omega (arith, decimal-ends s i v e (r .taken))) (within-yes low high v (r .above) (r .below))
 
--- a statement is what its fields give
-settled : (s : Bytes) {x st : Statement} {t r : Bytes} → give x t ≡ got st r → FieldsAt s t x → (kindOf st ≡ kindOf x) × FieldsAt s r st
-settled s e f = let z = given e in rw (← z .0, ← z .1) (refl, f)
+  pub number-outside : {e : ℕ} (i : ℕ) → i ≡ at + before → (r : OutOfRange decimal low high s i e)
+      → Told (mark (within low high) before (r .value) ∷ []) at e NUMBER (i + 1)
+  number-outside {e} i h r =
+      subst (λ (k : ℕ). Told (mark (within low high) before (r .value) ∷ []) at e NUMBER (k + 1)) (sym h)
+      (mark-outside (within low high) before (r .value) (omega (arith, decimal-ends s i (r .value) e (r .taken))) (r .outside))
 
-module _ (s : Bytes) (st : Statement) (r : Bytes) where
-  pub ring-fields : headed rings s ≡ got st r → (kindOf st ≡ Ring) × FieldsAt s r st
-  unfolding bytes
-  ring-fields e =
-      let k = onward-number s 4 _ (behind-word (bytes "ring") s (rings .1) e) in
-      settled s (k .more) (k .tabbed)
+-- ---- variables
+pub variable-range : (v : ℕ) → within 0 (variables - 1) v ≡ isVariable v
+unfolding isVariable
+variable-range v =
+    bool-ext (within 0 (variables - 1) v) (ltb v variables)
+    (λ t. lt-ltb v variables (omega (arith, leb-true v (variables - 1) (and-right (leb 0 v) (leb v (variables - 1)) t))))
+    (λ t. and-both (leb 0 v) (leb v (variables - 1)) (le-leb 0 v (omega arith)) (le-leb v (variables - 1) (omega (arith, ltb-true v variables t))))
 
-  pub del-fields : headed dels s ≡ got st r → (kindOf st ≡ Del) × FieldsAt s r st
-  unfolding bytes
-  del-fields e =
-      let i = onward-number s 3 _ (behind-word (bytes "del") s (dels .1) e) in
-      settled s (i .more) (i .tabbed)
+variable-mark : (v : ℕ) → mark (within 0 (variables - 1)) 1 v ≡ mark isVariable 1 v
+unfolding mark
+variable-mark v = λ i. record { before = 1; width = length (spellNumber v); fine = variable-range v i }
 
-  pub goal-fields : headed goals s ≡ got st r → (kindOf st ≡ Goal) × FieldsAt s r st
-  unfolding bytes
-  goal-fields e =
-      let p = onward-field s 4 _ (behind-word (bytes "goal") s (goals .1) e) in
-      settled s (p .more) (p .tabbed)
+set-of-more : (vs : List ℕ) (v : ℕ) → setOf (vs ++ (v ∷ [])) ≡ bitOr (2 ^ v) (setOf vs)
+unfolding setOf
+set-of-more [] v = refl
+set-of-more (u ∷ vs) v =
+    ap (bitOr (2 ^ u)) (set-of-more vs v)
+    ∙ sym (or-assoc (2 ^ u) (2 ^ v) (setOf vs))
+    ∙ ap (λ (x : ℕ). bitOr x (setOf vs)) (or-comm (2 ^ u) (2 ^ v))
+    ∙ or-assoc (2 ^ v) (2 ^ u) (setOf vs)
 
-  pub input-fields : headed inputs s ≡ got st r → (kindOf st ≡ Input) × FieldsAt s r st
-  unfolding bytes
-  input-fields e =
-      let i = onward-number s 2 _ (behind-word (bytes "in") s (inputs .1) e) in
-      let p = onward-field s (i .end) _ (i .more) in
-      settled s (p .more) (record { middle = i .end; index = i .tabbed; onward = i .onward; polynomial = p .tabbed })
+-- variables stand from at up to i
+abbrev pub VariablesTo : Bytes → ℕ → List ℕ → ℕ → ℕ → ℕ → Type 0
+VariablesTo s at set why byte i = Passed (code ".") decimal (λ vs. Told (variableMarks vs) at i why byte × (why ≡ ACCEPTED → number set ≡ setOf vs)) s at i
 
-  pub ext-fields : headed exts s ≡ got st r → (kindOf st ≡ Ext) × FieldsAt s r st
-  unfolding bytes
-  ext-fields e =
-      let i = onward-number s 3 _ (behind-word (bytes "ext") s (exts .1) e) in
-      let v = onward-number s (i .end) _ (i .more) in
-      let p = onward-field s (v .end) _ (v .more) in
-      settled s (p .more)
-      (record { middle = i .end; index = i .tabbed; onward = i .onward; behind = v .end; variable = v .tabbed; further = v .onward; polynomial = p .tabbed })
+pub variables-none : (s : Bytes) (at : ℕ) → at ≤ length s → VariablesTo s at (replicate setWords 0) ACCEPTED 0 at
+unfolding variableMarks gather number setOf
+variables-none s at h = passed-none (code ".") decimal s at h (told-none at, λ e. refl)
 
-  pub lin-fields : headed lins s ≡ got st r → (kindOf st ≡ Lin) × FieldsAt s r st
-  unfolding bytes
-  lin-fields e =
-      let i = onward-number s 3 _ (behind-word (bytes "lin") s (lins .1) e) in
-      let p = onward-field s (i .end) _ (i .more) in
-      let u = parted (tab (drop (p .end) s)) _ (p .more) in
-      let t = tab-at s (p .end) (u .value) (u .rest) (u .first) in
-      let q = parted (pair (u .rest)) _ (u .second) in
-      let qs = parted (morePairs (q .rest)) _ (q .second) in
-      settled s {x = lin (i .value) (p .value) (q .value ∷ qs .value)} (qs .second) (record {
-        middle = i .end;
-        index = i .tabbed;
-        onward = i .onward;
-        behind = p .end;
-        stated = p .tabbed;
-        further = p .onward;
-        inside = t .0;
-        tab = t .1;
-        pairs = more-pairs s (p .end) (t .0) (t .1) (ap pair (sym (t .2)) ∙ q .first) (qs .first);
+-- the marks with one variable more, behind a dot
+one-variable : (vs : List ℕ) (v : ℕ) {at e why byte : ℕ} → Told (variableMarks vs ++ (mark (within 0 (variables - 1)) 1 v ∷ [])) at e why byte
+    → Told (variableMarks (vs ++ (v ∷ []))) at e why byte
+unfolding variableMarks
+one-variable vs v t = rw (gather-last (λ v. mark isVariable 1 v ∷ []) vs v, ← variable-mark v) t
+
+module _ (s : Bytes) (at i why byte : ℕ) (set : List ℕ) (p : VariablesTo s at set why byte i) (here : standsAt s i (code ".") ≡ true) where
+  pub variables-more : {v e : ℕ} (set′ : List ℕ) → InRange decimal 0 (variables - 1) s (i + 1) v e → number set′ ≡ bitOr (2 ^ v) (number set)
+      → VariablesTo s at set′ why byte e
+  variables-more {v} set′ r q =
+      passed-more (code ".") decimal s at i p (stands s i (code ".") here .0) (stands s i (code ".") here .1) takes-decimal (r .taken)
+      (λ vs k. (
+        one-variable vs v (told-fine (k .0) (number-fine 0 (variables - 1) s i 1 (i + 1) refl r)),
+        λ e. q ∙ ap (bitOr (2 ^ v)) (k .1 e) ∙ sym (set-of-more vs v),
+      ))
+
+  pub variables-out : (r : Refusal) → RefusedAs decimal 0 (variables - 1) s (i + 1) r → (r .why ≡ FORM → ⊥) → VariablesTo s at set (r .why) (firstOf byte (i + 2)) (r .end)
+  variables-out r q n = ⊎-elim out (λ f. absurd (n (f .0))) q
+    where
+      e : i + 2 ≡ i + 1 + 1
+      e = omega arith
+
+      out : (r .why ≡ NUMBER) × OutOfRange decimal 0 (variables - 1) s (i + 1) (r .end) → VariablesTo s at set (r .why) (firstOf byte (i + 2)) (r .end)
+      out f =
+          passed-more (code ".") decimal s at i p (stands s i (code ".") here .0) (stands s i (code ".") here .1) takes-decimal (f .1 .taken)
+          (λ vs k. (
+            rw (f .0, e) (one-variable vs (f .1 .value) (told-out (k .0) (number-outside 0 (variables - 1) s i 1 (i + 1) refl (f .1)))),
+            λ z. absurd (let y : ⊥ = omega (arith, f .0) in y),
+          ))
+
+  pub variables-stuck : (r : Refusal) → RefusedAs decimal 0 (variables - 1) s (i + 1) r → r .why ≡ FORM → Fails moreVariables s at (r .end)
+  variables-stuck r q f = passed-stuck (code ".") decimal s at i p (stands s i (code ".") here .0) (stands s i (code ".") here .1) (⊎-elim (λ x. absurd (let y : ⊥ = omega (arith, x .0) in y)) (λ x. x .1) q)
+
+-- ---- magnitudes
+module _ (greatest : ℕ) (s : Bytes) (at i : ℕ) (negative : Bool) (h : i ≡ at + cond negative 1 0) (g : Got sign s at negative (at + cond negative 1 0)) where
+  pub magnitude-fine : {m e : ℕ} (coefficient : ℕ) → InRange decimal 1 greatest s i m e → coefficient ≡ signedWord negative m
+      → MagnitudeAt greatest s at (record { coefficient = coefficient; end = e; why = ACCEPTED; byte = 0 })
+  magnitude-fine {m} c r q = record {
+    negative = negative;
+    signed = g;
+    size = inr (record {
+      value = m;
+      taken = rw (← h) (r .taken);
+      told = number-fine 1 greatest s (at + cond negative 1 0) 0 i (h ∙ sym (add-zero (at + cond negative 1 0))) r;
+      holds = λ e. q;
+    });
+  }
+
+  pub magnitude-refused : (r : Refusal) → RefusedAs decimal 1 greatest s i r
+      → MagnitudeAt greatest s at (record { coefficient = 0; end = r .end; why = r .why; byte = i + 1 })
+  magnitude-refused r q = record { negative = negative; signed = g; size = ⊎-elim out (λ f. inl (f .0, rw (← h) (f .1))) q }
+    where
+      out : (r .why ≡ NUMBER) × OutOfRange decimal 1 greatest s i (r .end)
+          → Part decimal (λ m. mark (within 1 greatest) 0 m ∷ []) (λ m. r .why ≡ ACCEPTED → 0 ≡ signedWord negative m) s (at + cond negative 1 0) (r .end) (r .why) (i + 1)
+      out f = inr (record {
+        value = f .1 .value;
+        taken = rw (← h) (f .1 .taken);
+        told = rw (f .0) (number-outside 1 greatest s (at + cond negative 1 0) 0 i (h ∙ sym (add-zero (at + cond negative 1 0))) (f .1));
+        holds = λ z. absurd (let y : ⊥ = omega (arith, f .0) in y);
       })
 
--- ---- whole lines
--- a keyword, the fields of its kind and nothing more
-abbrev pub whole : LineKind → Reader Statement
-whole k s = next (literal (k .0) s) (λ _ r. next (k .1 r) (λ st t. next (end t) (λ _. give st)))
+-- ---- terms
+term-got : {s : Bytes} {at i j e magnitude : ℕ} {negative : Bool} {variables : List ℕ} → Got sign s at negative i → Got decimal s i magnitude j
+    → Got moreVariables s j variables e → Got term s at (record { negative = negative; magnitude = magnitude; variables = variables }) e
+unfolding term
+term-got g h k = got-then sign _ g (got-then decimal _ h (got-then moreVariables _ k (got-give _ (k .inside))))
 
-pub closing : (k : LineKind) (s : Bytes) → whole k s ≡ next (headed k s) (λ st t. next (end t) (λ _. give st))
-closing k s = sym (next-assoc (literal (k .0) s) (λ _. k .1) (λ st t. next (end t) (λ _. give st)))
+-- a term that stops
+pub term-stops : (greatest : ℕ) {s : Bytes} {at e why : ℕ} (r : TermRead) → (r .end ≡ e) × (r .why ≡ why) → why ≡ FORM → Fails term s at e → TermAt greatest s at r
+term-stops greatest {s = s} {at = at} r q f h = inl (q .1 ∙ f, subst (λ (k : ℕ). Fails term s at k) (sym (q .0)) h)
 
-end-empty : (t : Bytes) (u : Unit {0}) (r : Bytes) → end t ≡ got u r → t ≡ []
-unfolding end
-end-empty [] u r e = refl
-end-empty (b ∷ t) u r e = absurd (clash e)
+module _ (greatest : ℕ) (s : Bytes) (at : ℕ) (m : Magnitude) (h : MagnitudeAt greatest s at m) where
+  pub magnitude-stuck : m .why ≡ FORM → Fails term s at (m .end)
+  unfolding term
+  magnitude-stuck f = fails-then sign _ (h .signed) (fails-first decimal _ (part-stuck (h .size) f))
 
-whole-headed : (k : LineKind) (s : Bytes) (st : Statement) (r : Bytes) → whole k s ≡ got st r → headed k s ≡ got st []
-whole-headed k s st r e =
-    let p = parted (headed k s) (λ st t. next (end t) (λ _. give st)) (sym (closing k s) ∙ e) in
-    let q = parted (end (p .rest)) (λ _. give (p .value)) (p .second) in
-    p .first ∙ ap₂ (λ (x : Statement) (l : Bytes). got x l) (given (q .second) .0) (end-empty (p .rest) (q .value) (q .rest) (q .first))
+  module _ (n : m .why ≡ FORM → ⊥) where
+    pub magnitude-inside : m .end ≤ length s
+    magnitude-inside = part-took (h .size) n .taken .inside
 
-one-or-other : (k : LineKind) (ks : List LineKind) (s : Bytes) (x : Read Statement) → oneOf (k ∷ ks) s ≡ x → (whole k s ≡ x) ⊎ (oneOf ks s ≡ x)
-unfolding oneOf
-one-or-other k ks s x e = go (beginsAlike (k .0) s) e
-  where
-    go : (b : Bool) → cond b (whole k s) (oneOf ks s) ≡ x → (whole k s ≡ x) ⊎ (oneOf ks s ≡ x)
-    go true e = inl e
-    go false e = inr e
+    module _ (vs : Variables) (k : VariablesAt s (m .end) vs) where
+      pub names-stuck : vs .why ≡ FORM → Fails term s at (vs .end)
+      unfolding term
+      names-stuck f = fails-then sign _ (h .signed) (fails-then decimal _ (part-took (h .size) n .taken) (fails-first moreVariables _ (part-stuck k f)))
 
-by-kind : (s : Bytes) (st : Statement) (r : Bytes) (k : LineKind) (ks : List LineKind) → (headed k s ≡ got st [] → FieldsAt s [] st) → (oneOf ks s ≡ got st r → FieldsAt s [] st)
-    → oneOf (k ∷ ks) s ≡ got st r → FieldsAt s [] st
-by-kind s st r k ks f g e = ⊎-elim (λ w. f (whole-headed k s st r w)) g (one-or-other k ks s (got st r) e)
-
--- only a line with its byte 10 can be read
-pub short-of : {st : Statement} {r : Bytes} (x : Read Statement) → next x (λ _ t. stuck t) ≡ got st r → ⊥
-short-of (got y t) e = clash e
-short-of (stuck t) e = clash e
-
-pub fields-at : (s : Bytes) (ended : Bool) (st : Statement) (r : Bytes) → statement (record { content = s; ended = ended }) ≡ got st r → FieldsAt s [] st
-unfolding statement kinds oneOf
-fields-at s false st r e = absurd (short-of (oneOf kinds s) e)
-fields-at s true st r e =
-    by-kind s st r rings (inputs ∷ goals ∷ lins ∷ dels ∷ exts ∷ []) (λ e. ring-fields s st [] e .1)
-    (by-kind s st r inputs (goals ∷ lins ∷ dels ∷ exts ∷ []) (λ e. input-fields s st [] e .1)
-    (by-kind s st r goals (lins ∷ dels ∷ exts ∷ []) (λ e. goal-fields s st [] e .1)
-    (by-kind s st r lins (dels ∷ exts ∷ []) (λ e. lin-fields s st [] e .1)
-    (by-kind s st r dels (exts ∷ []) (λ e. del-fields s st [] e .1)
-    (by-kind s st r exts [] (λ e. ext-fields s st [] e .1)
-    (λ e. absurd (clash e)))))))
-    e
+      pub term-took : (vs .why ≡ FORM → ⊥) → (words : List ℕ) (why byte : ℕ) → termOf words ≡ record { set = number (vs .set); coef = m .coefficient }
+          → why ≡ firstOf (m .why) (vs .why) → byte ≡ firstOf (m .byte) (vs .byte) → TermAt greatest s at (record { term = words; end = vs .end; why = why; byte = byte })
+      unfolding termMarks wordedTerm
+      term-took f words why byte q ew eb =
+          let x = part-took (h .size) n in
+          let y = part-took k f in
+          let z = told-then (told-lead (within 1 greatest) 0 (0 + cond (h .negative) 1 0) (cond (h .negative) 1 0) (x .value) [] (omega arith) (x .told)) (y .told) in
+          inr (record {
+            value = record { negative = h .negative; magnitude = x .value; variables = y .value };
+            taken = term-got (h .signed) (x .taken) (y .taken);
+            told = rw (ew, eb) z;
+            holds = λ a.
+                let b = both-accepted (m .why) (vs .why) (sym ew ∙ a) in
+                q ∙ (λ i. record { set = y .holds (b .1) i; coef = x .holds (b .0) i });
+          })

@@ -1,8 +1,11 @@
-pub mod Search
 pub mod Numbers
-pub mod Scans
-pub mod Polynomials
+pub mod Search
+pub mod Following
+pub mod Widths
+pub mod Marks
+pub mod Keywords
 pub mod Fields
-pub mod Lines
-pub mod LineKinds
+pub mod Gathering
+pub mod Polynomials
+pub mod Ranges
 pub mod Decided

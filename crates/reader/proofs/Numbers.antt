@@ -1,23 +1,24 @@
 -- Digits, decimals and numbers in a range, as the code finds them. Assumes nothing.
 use mathlib.Core.Path.{_≡_, refl, sym, _∙_}
 use mathlib.Core.Bool.{Bool, true, false, _&&_}
-use mathlib.Core.Logic.{inl, inr, ⊎-elim}
+use mathlib.Core.Logic.{_⊎_, inl, inr, ⊎-elim}
 use Prim.Native.Nat.{ℕ, _+_, _-_, _*_, _/_, _^_, _≤_, _<_}
 use native.Mathlib.Omega.{arith}
 use lib.Dec.{leb, ltb}
 use lib.ListN.{length, drop, getD}
 use borrow.Author.Tests.{leb-true, ltb-true, lt-ltb, le-leb, lt-leb}
 use Rattle.ground.proofs.Tests.{bool-ext}
-use Rattle.limits.specs.Verdicts.{FORM}
+use Rattle.limits.specs.Verdicts.{FORM, NUMBER}
 use Rattle.paper.specs.Grammar.{Bytes, Reader, got, digits, decimal}
 use Rattle.paper.specs.Statement.{within}
 use Rattle.paper.proofs.Pieces.{digits-more, digits-least}
 use Rattle.reader.specs.Places.{Got, Fails}
-use Rattle.reader.specs.Numbers.{TooLarge, DecimalIs, DigitsEnd, refusalOf, InRange, OutOfRange, NumberIs}
+use Rattle.reader.specs.Numbers.{TooLarge, DecimalIs, DigitsEnd, outsideOf, InRange, OutOfRange, NumberIs, refusedOf}
 use Rattle.reader.specs.declared.number.Decimal.{Decimal}
 use Rattle.reader.specs.declared.number.Decimal.the-variants.{Value, Large, Stuck}
 use Rattle.reader.specs.declared.number.Number.{Number}
 use Rattle.reader.specs.declared.number.Number.the-variants.{Value as Ranged, Refused}
+use Rattle.reader.specs.declared.number.Refusal.{Refusal}
 
 -- ---- one digit more
 pub exceeds-not : (v d : ℕ) → d ≤ 9 → v < 1844674407370955161 → false ≡ leb (2 ^ 64) (v * 10 + d)
@@ -84,19 +85,24 @@ module _ (low high v : ℕ) where
       go false = refl
 
 pub number-refused : (low high : ℕ) (s : Bytes) (at : ℕ) → high < 2 ^ 64 → (d : Decimal) → DecimalIs decimal s at d
-    → ((v e : ℕ) → d ≡ Value v e → within low high v ≡ false) → NumberIs low high s at (refusalOf d)
+    → ((v e : ℕ) → d ≡ Value v e → within low high v ≡ false) → NumberIs decimal low high s at (outsideOf d)
 number-refused low high s at h (Value v e) d o = inl (refl, record { value = v; outside = o v e refl; taken = d })
 number-refused low high s at h (Large e) d o =
     let l = d .large in
     inl (refl, record { value = d .value; outside = within-above low high (d .value) (omega arith); taken = d .taken })
 number-refused low high s at h (Stuck p) d o = inr (refl, d)
 
-module _ (low high : ℕ) (s : Bytes) (at : ℕ) {n : Number} {e : ℕ} (h : NumberIs low high s at n) where
-  pub number-got : {v : ℕ} → n ≡ Ranged v e → InRange low high s at v e
-  number-got q = rw q at h
+-- ---- a number's answer taken apart
+module _ (read : Reader ℕ) (low high : ℕ) (s : Bytes) (at : ℕ) where
+  pub number-got : {n : Number} {v e : ℕ} → NumberIs read low high s at n → n ≡ Ranged v e → InRange read low high s at v e
+  number-got h q = rw q at h
 
-  pub number-stuck : {why : ℕ} → n ≡ Refused why e → why ≡ FORM → Fails decimal s at e
-  number-stuck {why} q f = ⊎-elim (λ p. absurd (let y : ⊥ = omega (arith, p .0) in y)) (λ p. p .1) (rw q at h)
+  -- of one that is no value
+  abbrev pub RefusedAs : Refusal → Type 0
+  RefusedAs r = ((r .why ≡ NUMBER) × OutOfRange read low high s at (r .end)) ⊎ ((r .why ≡ FORM) × Fails read s at (r .end))
 
-  pub number-out : {why : ℕ} → n ≡ Refused why e → (why ≡ FORM → ⊥) → OutOfRange low high s at e
-  number-out {why} q f = ⊎-elim (λ p. p .1) (λ p. absurd (f (p .0))) (rw q at h)
+  pub number-not : {n : Number} {r : Refusal} {why e : ℕ} → NumberIs read low high s at n → n ≡ Refused why e → r ≡ refusedOf n → RefusedAs r
+  number-not h q z = rw (z, q) (rw q at h)
+
+  pub refused-onward : {r : Refusal} → RefusedAs r → at ≤ r .end
+  refused-onward q = ⊎-elim (λ x. x .1 .taken .onward) (λ x. x .1 .onward) q

@@ -1,98 +1,60 @@
--- Numbers, variables, terms and polynomials as they are scanned. Assumes nothing.
-use mathlib.Core.Path.{_≡_, refl, sym, ap, ap₂, _∙_}
-use mathlib.Core.Bool.{Bool, true, false, _&&_, cond}
-use mathlib.Core.Logic.{⊎-elim}
+-- A field from its first term and the terms behind it, and the field `0`. Assumes nothing.
+use mathlib.Core.Path.{_≡_, refl, sym, ap, ap₂, subst, _∙_}
+use mathlib.Core.Bool.{Bool, true, false, _&&_, not, cond}
+use mathlib.Core.Logic.{inl, inr, ⊎-elim}
 use mathlib.Core.List.{List, [], _∷_, _++_}
-use Prim.Native.Nat.{ℕ, suc, _+_, _-_, _≤_, _<_}
+use Prim.Native.Nat.{ℕ, suc, _+_, _-_, _*_, _≤_, _<_}
 use Prim.Native.Char.{code}
 use native.Mathlib.Numerals.{add-one}
 use native.Mathlib.Omega.{arith}
-use lib.Dec.{leb, ltb}
-use lib.ListN.{length, drop, getD, length-drop, length-append, drop-of-length-le}
+use lib.Dec.{eqb, leb, ltb}
+use lib.ListN.{length, take, drop, getD, length-drop, take-append-drop}
 use lib.Seq.{drop-cons}
-use borrow.Author.Tests.{leb-true, ltb-true, ltb-false, lt-ltb, le-ltb, le-leb, eq-eqb, ne-eqb}
-use Rattle.ground.specs.Lists.{every}
-use Rattle.ground.proofs.Tests.{bool-ext, split, and-right, and-both}
-use Rattle.limits.specs.Limits.{variables, greatestMagnitude, fieldTerms}
-use Rattle.paper.specs.Grammar.{Bytes, got, decimal, sign, term, asWritten, polynomial}
+use borrow.Author.Tests.{eqb-true, leb-true, le-leb, ltb-true, ltb-false, lt-ltb}
+use Rattle.ground.specs.Lists.{every, total}
+use Rattle.ground.proofs.Tests.{bool-ext, split, and-left, and-right}
+use Rattle.limits.specs.Limits.{termWords, fieldTerms}
+use Rattle.limits.specs.Verdicts.{ACCEPTED, FORM, NUMBER, TERMS}
+use Rattle.algebra.specs.Polynomial.{Poly, Term}
+use Rattle.words.specs.Parts.{Within}
+use Rattle.words.proofs.Parts.{within-refl, within-trans, within-wider}
+use Rattle.terms.specs.Terms.{decode}
+use Rattle.written.specs.Worded.{worded}
+use Rattle.paper.specs.Grammar.{Bytes, got, term, asWritten, polynomial, moreTerms}
+use Rattle.paper.specs.Statement.{WrittenTerm, Written, tooManyTerms}
+use Rattle.paper.specs.Spelling.{spellNumber, spellDigits}
+use Rattle.paper.specs.Rules.{first}
 use Rattle.paper.proofs.Reading.{takes-term, inField, each-none}
 use Rattle.paper.proofs.Pieces.{isZero, each-empty, term-zero, zero-term}
-use Rattle.paper.specs.Statement.{WrittenTerm, within, isVariable, isTerm, inRange, tooManyTerms}
 use Rattle.reader.specs.Places.{Got}
-use Rattle.reader.specs.Fields.{moreVariables, moreTerms, always, fewTerms, fewMore, Scanned, Scans, Signed}
-use Rattle.reader.specs.declared.field.FieldScan.the-variants.{Field}
-use Rattle.reader.proofs.Scans.{got-onward, got-then, got-give}
+use Rattle.reader.specs.Marks.{allFine, span, firstOutside, mark, termMarks, moreMarks, fieldMarks, firstTooMany}
+use Rattle.reader.specs.Fields.{firstOf, Told, TermAt, PutBehind, moreTooMany, RestAt, FieldIs}
+use Rattle.reader.specs.declared.term.TermRead.{TermRead}
+use Rattle.reader.specs.declared.field.Rest.{Rest}
+use Rattle.reader.specs.declared.field.FieldRead.{FieldRead}
+use Rattle.reader.proofs.Marks.{told-then, both-accepted, span-append}
+use Rattle.reader.proofs.Following.{got-onward, got-then, got-give, fails-then, fails-first}
+use Rattle.reader.proofs.Fields.{part-stuck, part-took}
 
--- ---- signs
-module _ (s : Bytes) (at : ℕ) where
-  pub sign-here : at < length s → getD s at 0 ≡ 45 → sign (drop at s) ≡ got true (drop (at + 1) s)
-  unfolding sign
-  sign-here h b = rw (drop-cons s at 0 h, eq-eqb (getD s at 0) 45 b, add-one at)
-
-  pub sign-not : at < length s → (getD s at 0 ≡ 45 → ⊥) → sign (drop at s) ≡ got false (drop at s)
-  unfolding sign
-  sign-not h b = rw (drop-cons s at 0 h, ne-eqb (getD s at 0) 45 b)
-
-  pub sign-end : length s ≤ at → sign (drop at s) ≡ got false (drop at s)
-  unfolding sign
-  sign-end h = rw (drop-of-length-le s h)
-
--- ---- variables
-pub variable-range : (v : ℕ) → within 0 (variables - 1) v ≡ isVariable v
-unfolding isVariable
-variable-range v =
-    bool-ext (within 0 (variables - 1) v) (ltb v variables)
-    (λ t. lt-ltb v variables (omega (arith, leb-true v (variables - 1) (and-right (leb 0 v) (leb v (variables - 1)) t))))
-    (λ t. and-both (leb 0 v) (leb v (variables - 1)) (le-leb 0 v (omega arith)) (le-leb v (variables - 1) (omega (arith, ltb-true v variables t))))
-
--- ---- terms
-pub term-got : {s : Bytes} {at i j e magnitude : ℕ} {negative : Bool} {variables : List ℕ} → Got sign s at negative i → Got decimal s i magnitude j
-    → Got moreVariables s j variables e → Got term s at (record { negative = negative; magnitude = magnitude; variables = variables }) e
-unfolding term
-term-got g h k = got-then sign _ g (got-then decimal _ h (got-then moreVariables _ k (got-give _ (k .inside))))
-
-pub term-scans : {s : Bytes} {at i j e : ℕ} {a b x y : Bool} (sg : Signed s at i) (m : Scanned decimal (within 1 greatestMagnitude) always s i j a x)
-    → Scanned moreVariables (every isVariable) always s j e b y → Scans term isTerm always s at (Field e (a && b) true)
-unfolding isTerm
-term-scans sg m vs =
-    record {
-      said = record { value = _; taken = term-got (sg .taken) (m .taken) (vs .taken); in-range = ap₂ _&&_ (m .in-range) (vs .in-range); short = refl };
-    }
-
--- ---- polynomials
-few-more : (t : WrittenTerm) (ts : List WrittenTerm) → fewMore ts ≡ fewTerms (t ∷ ts)
-unfolding fewMore fewTerms tooManyTerms
-few-more t ts =
-    ⊎-elim
-    (λ t. let l = ltb-true (length ts) fieldTerms t in rw (t, le-ltb fieldTerms (suc (length ts)) (omega arith)))
-    (λ t. let l = ltb-false (length ts) fieldTerms t in rw (t, lt-ltb fieldTerms (suc (length ts)) (omega arith)))
-    (split (ltb (length ts) fieldTerms))
-
-pub few-count : (ts : List WrittenTerm) (n : ℕ) → n ≡ length ts → ltb n fieldTerms ≡ fewMore ts
-unfolding fewMore
-few-count ts n e = ap (λ (k : ℕ). ltb k fieldTerms) e
-
-pub count-more : (ts : List WrittenTerm) (t : WrittenTerm) (n : ℕ) → n ≡ length ts → n + 1 ≡ length (ts ++ (t ∷ []))
-count-more ts t n e = omega (arith, length-append ts (t ∷ []))
-
+-- ---- the polynomial of a first term and others
 module _ {s : Bytes} {at i e : ℕ} {t : WrittenTerm} {ts : List WrittenTerm} (g : Got term s at t i) (h : Got moreTerms s i ts e) where
   polynomial-got : Got polynomial s at (asWritten t ts) e
   unfolding polynomial
   polynomial-got = got-then term _ g (got-then moreTerms _ h (got-give _ (h .inside)))
 
   -- the field is `0`
-  as-zero : e ≡ at + 1 → getD s at 0 ≡ 48 → asWritten t ts ≡ []
-  unfolding asWritten inField
+  as-zero : e ≡ at + 1 → getD s at 0 ≡ 48 → (ts ≡ []) × (isZero t ≡ true)
+  unfolding inField
   as-zero q b =
       let n = got-onward term takes-term g in
       let l : at < length s = omega (arith, g .inside) in
       let o = h .onward in
       let ei : e ≡ i = omega (arith, length-drop at s, length-drop i s) in
       let ia : i ≡ suc at = omega (arith, add-one at) in
-      let none = each-none (code " ") term takes-term refl (drop i s) ts (h .reads ∙ ap (λ (k : ℕ). got ts (drop k s)) ei) in
-      let d : code "0" ∷ drop (suc at) s ≡ drop at s = sym (drop-cons s at 0 l ∙ ap (λ (x : ℕ). x ∷ drop (suc at) s) b) in
-      let zero = zero-term (drop (suc at) s) t (ap term d ∙ g .reads ∙ ap (λ (k : ℕ). got t (drop k s)) ia) in
-      ap (asWritten t) none ∙ ap (λ (z : Bool). cond z [] (t ∷ [])) zero
+      let d : code "0" ∷ drop (suc at) s ≡ drop at s = sym (drop-cons s at 0 l ∙ ap (λ (x : ℕ). x ∷ drop (suc at) s) b) in (
+        each-none (code " ") term takes-term refl (drop i s) ts (h .reads ∙ ap (λ (k : ℕ). got ts (drop k s)) ei),
+        zero-term (drop (suc at) s) t (ap term d ∙ g .reads ∙ ap (λ (k : ℕ). got t (drop k s)) ia),
+      )
 
   -- the field is not `0`
   as-terms : (e ≡ at + 1 → getD s at 0 ≡ 48 → ⊥) → asWritten t ts ≡ t ∷ ts
@@ -112,22 +74,124 @@ module _ {s : Bytes} {at i e : ℕ} {t : WrittenTerm} {ts : List WrittenTerm} (g
       go [] m =
           ⊎-elim (λ z. absurd (one (g .reads) (g .inside) m z)) (λ z. ap (λ (z : Bool). cond z [] (t ∷ [])) z) (split (isZero t))
 
-module _ {s : Bytes} {at i e : ℕ} {a b x y : Bool} (t : Scanned term isTerm always s at i a x) (ts : Scanned moreTerms (every isTerm) fewMore s i e b y) where
-  pub zero-scans : e ≡ at + 1 → getD s at 0 ≡ 48 → Scans polynomial inRange fewTerms s at (Field e true true)
-  unfolding inRange fewTerms tooManyTerms every
-  zero-scans q z =
-      let w = as-zero (t .taken) (ts .taken) q z in
-      record { said = record { value = _; taken = polynomial-got (t .taken) (ts .taken); in-range = sym (ap inRange w); short = sym (ap fewTerms w) } }
+zero-magnitude : (t : WrittenTerm) → isZero t ≡ true → t .magnitude ≡ 0
+zero-magnitude t z =
+    eqb-true (t .magnitude) 0 (and-right (not (t .negative)) (eqb (t .magnitude) 0) (and-left (not (t .negative) && eqb (t .magnitude) 0) _ z))
 
-  pub terms-scans : (e ≡ at + 1 → getD s at 0 ≡ 48 → ⊥) → Scans polynomial inRange fewTerms s at (Field e (a && b) y)
-  unfolding inRange every
-  terms-scans q =
-      let w = as-terms (t .taken) (ts .taken) q in
-      record {
-        said = record {
-          value = _;
-          taken = polynomial-got (t .taken) (ts .taken);
-          in-range = ap₂ _&&_ (t .in-range) (ts .in-range) ∙ sym (ap inRange w);
-          short = ts .short ∙ few-more (t .value) (ts .value) ∙ sym (ap fewTerms w);
-        };
-      }
+-- the term 0 is out of its range
+zero-outside : (greatest : ℕ) (t : WrittenTerm) {at e why byte : ℕ} → isZero t ≡ true → Told (termMarks greatest 0 t) at e why byte → why ≡ ACCEPTED → ⊥
+unfolding termMarks mark allFine every
+zero-outside greatest t z h a =
+    let m = zero-magnitude t z in
+    let v = h .verdict in
+    let w : NUMBER ≡ ACCEPTED = sym (rw m at v) ∙ a in
+    omega arith
+
+-- ---- counts
+verdict-first : (a b : Bool) → firstOf (cond a ACCEPTED NUMBER) (cond b TERMS ACCEPTED) ≡ first ((NUMBER, not a) ∷ (TERMS, b) ∷ [])
+unfolding firstOf first
+verdict-first true b = refl
+verdict-first false b = refl
+
+few : (b : Bool) → cond b TERMS ACCEPTED ≡ ACCEPTED → b ≡ false
+few true e = absurd (let z : ⊥ = omega arith in z)
+few false e = refl
+
+unchanged : (k : ℕ) (s r : List ℕ) → Within k k s r → r ≡ s
+unchanged k s r w = sym (take-append-drop k r) ∙ ap₂ _++_ (w .before) (w .after) ∙ take-append-drop k s
+
+more-tests : (n : ℕ) → leb fieldTerms n ≡ ltb fieldTerms (suc n)
+more-tests n =
+    bool-ext (leb fieldTerms n) (ltb fieldTerms (suc n))
+    (λ e. lt-ltb fieldTerms (suc n) (omega (arith, leb-true fieldTerms n e)))
+    (λ e. le-leb fieldTerms n (omega (arith, ltb-true fieldTerms (suc n) e)))
+
+excess-first : (greatest at i : ℕ) (t : WrittenTerm) (ts : List WrittenTerm) → i ≡ at + span (termMarks greatest 0 t)
+    → moreTooMany greatest i ts ≡ firstTooMany greatest at (t ∷ ts)
+unfolding moreTooMany firstTooMany tooManyTerms fieldMarks
+excess-first greatest at i t ts h =
+    let e : i + span (moreMarks greatest (take (fieldTerms - 1) ts)) + 2 ≡ at + span (termMarks greatest 0 t ++ moreMarks greatest (take (fieldTerms - 1) ts)) + 2
+    = omega (arith, span-append (termMarks greatest 0 t) (moreMarks greatest (take (fieldTerms - 1) ts))) in
+    ap₂ (λ (b : Bool) (k : ℕ). cond b k 0) (more-tests (length ts)) e
+
+-- ---- the field
+module _ (greatest : ℕ) (s : Bytes) (at : ℕ) (out : List ℕ) (t : TermRead) (h : TermAt greatest s at t) where
+  pub field-stuck : {r : FieldRead} → t .why ≡ FORM → r ≡ record { why = t .why; end = t .end; terms = 0; outside = 0; extra = 0 } → FieldIs greatest s at out out r
+  unfolding polynomial
+  field-stuck f q = rw (q, f) (record { within = within-refl; said = inl (record { stops = fails-first term _ (part-stuck h f); gives = refl }) })
+
+  module _ (n : t .why ≡ FORM → ⊥) (mid out′ : List ℕ) (put : PutBehind 0 (t .why) (t .term) out mid) (r : Rest) (k : RestAt greatest s (t .end) mid out′ r) where
+    all : Within 0 (fieldTerms * termWords) out out′
+    all = within-trans
+        (within-wider 0 (0 * termWords) ((0 + 1) * termWords) (fieldTerms * termWords) out mid (omega arith) (omega arith) (put .kept (omega arith)))
+        (within-wider 0 termWords (fieldTerms * termWords) (fieldTerms * termWords) mid out′ (omega arith) (omega arith) (k .within))
+
+    pub rest-stuck : {f : FieldRead} → r .why ≡ FORM → f ≡ record { why = r .why; end = r .end; terms = 0; outside = 0; extra = 0 } → FieldIs greatest s at out out′ f
+    unfolding polynomial
+    rest-stuck w q =
+        rw (q, w) (record { within = all; said = inl (record { stops = fails-then term _ (part-took h n .taken) (fails-first moreTerms _ (part-stuck (k .said) w)); gives = refl }) })
+
+    module _ (m : r .why ≡ FORM → ⊥) where
+      pub rest-inside : r .end ≤ length s
+      rest-inside = part-took (k .said) m .taken .inside
+
+      pub field-zero : {f : FieldRead} → r .end ≡ at + 1 → getD s at 0 ≡ 48 → f ≡ record { why = ACCEPTED; end = r .end; terms = 0; outside = 0; extra = 0 }
+          → FieldIs greatest s at out out′ f
+      unfolding asWritten fieldMarks mark span total firstOutside allFine every first tooManyTerms firstTooMany spellNumber spellDigits worded decode
+      field-zero e b q =
+          let x = part-took h n in
+          let y = part-took (k .said) m in
+          let z = as-zero (x .taken) (y .taken) e b in
+          let c : r .terms ≡ 1 = y .holds .count ∙ ap (λ (l : List WrittenTerm). suc (length l)) (z .0) in
+          let w : Within termWords termWords mid out′ = rw c at (y .holds .kept (omega arith)) in
+          let same : out′ ≡ out = unchanged termWords mid out′ w ∙ put .refused (zero-outside greatest (x .value) (z .1) (x .told)) in
+          let v : asWritten (x .value) (y .value) ≡ [] = ap (asWritten (x .value)) (z .0) ∙ ap (λ (z : Bool). cond z [] (x .value ∷ [])) (z .1) in
+          rw q (record {
+            within = all;
+            said = inr (record {
+              value = [];
+              taken = subst (λ (p : Written). Got polynomial s at p (r .end)) v (polynomial-got (x .taken) (y .taken));
+              ends = omega arith;
+              verdict = refl;
+              outside = refl;
+              excess = refl;
+              terms = refl;
+              run = λ a. refl;
+              kept = λ l. rw same within-refl;
+            });
+          })
+
+      pub field-terms : (r .end ≡ at + 1 → getD s at 0 ≡ 48 → ⊥) → (both why byte : ℕ) → both ≡ firstOf (t .why) (r .why)
+          → why ≡ firstOf both (cond (ltb fieldTerms (r .terms)) TERMS ACCEPTED) → byte ≡ firstOf (t .byte) (r .byte)
+          → FieldIs greatest s at out out′ (record { why = why; end = r .end; terms = r .terms; outside = byte; extra = r .extra })
+      unfolding fieldMarks tooManyTerms worded decode
+      field-terms z both why byte eb ew ey =
+          let x = part-took h n in
+          let y = part-took (k .said) m in
+          let p = y .holds in
+          let v = as-terms (x .taken) (y .taken) z in
+          let d = told-then (x .told) (y .told) in
+          record {
+            within = all;
+            said = inr (record {
+              value = x .value ∷ y .value;
+              taken = subst (λ (p : Written). Got polynomial s at p (r .end)) v (polynomial-got (x .taken) (y .taken));
+              ends = d .ends;
+              verdict =
+                  ew ∙ ap₂ (λ (a b : ℕ). firstOf a (cond (ltb fieldTerms b) TERMS ACCEPTED)) (eb ∙ d .verdict) (p .count)
+                  ∙ verdict-first (allFine (termMarks greatest 0 (x .value) ++ moreMarks greatest (y .value))) (ltb fieldTerms (suc (length (y .value))));
+              outside = ey ∙ d .outside;
+              excess = p .excess ∙ excess-first greatest at (t .end) (x .value) (y .value) (x .told .ends);
+              terms = p .count;
+              run = λ a.
+                  let c = both-accepted both (cond (ltb fieldTerms (r .terms)) TERMS ACCEPTED) (sym ew ∙ a) in
+                  let w = both-accepted (t .why) (r .why) (sym eb ∙ c .0) in
+                  let l = ltb-false fieldTerms (r .terms) (few (ltb fieldTerms (r .terms)) (c .1)) in
+                  p .run (w .1) l
+                  ∙ ap (λ (q : Poly). q ++ worded (y .value)) (put .run (w .0) (omega arith) ∙ ap (λ (u : Term). u ∷ []) (x .holds (w .0)));
+              kept = λ l.
+                  within-trans
+                  (within-wider 0 (0 * termWords) ((0 + 1) * termWords) (r .terms * termWords) out mid (omega arith) (omega (arith, p .count)) (put .kept (omega arith)))
+                  (within-wider 0 termWords (r .terms * termWords) (r .terms * termWords) mid out′ (omega arith) (omega arith) (p .kept l));
+            });
+          }

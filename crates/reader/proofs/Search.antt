@@ -1,25 +1,20 @@
--- Bytes passed over in search of another, the lines of a text whose first byte 10 is known, and the end of a field whose first tab is.
--- Assumes nothing.
-use mathlib.Core.Path.{_≡_, refl, sym, ap, ap₂, _∙_, subst}
-use mathlib.Core.Bool.{Bool, true, false, not}
+-- Bytes passed over in search of another, and the lines of a text whose first byte 10 is known. Assumes nothing.
+use mathlib.Core.Path.{_≡_, refl, sym, ap, ap₂, _∙_}
+use mathlib.Core.Bool.{true, false}
 use mathlib.Core.List.{[], _∷_, _++_}
-use Prim.Native.Nat.{ℕ, zero, suc, _+_, _-_, _≤_, _<_}
-use native.Mathlib.Nat.{not-suc-le-zero, le-of-suc-le-suc}
+use Prim.Native.Nat.{ℕ, suc, _+_, _-_, _≤_, _<_}
+use native.Mathlib.Nat.{not-suc-le-zero}
 use native.Mathlib.Numerals.{add-one}
 use native.Mathlib.Omega.{arith}
-use lib.Dec.{eqb}
-use lib.ListN.{length, take, drop, getD, length-drop, take-append-drop}
+use lib.ListN.{length, drop, getD, length-drop, take-append-drop}
 use lib.Seq.{drop-cons, drop-drop, take-all, getD-take, getD-drop}
 use borrow.Author.Count.{below-more}
-use borrow.Author.Tests.{eqb-false, ne-eqb, not-true}
-use Rattle.ground.specs.Lists.{every}
-use Rattle.ground.proofs.Tests.{and-left, and-right}
+use borrow.Author.Tests.{ne-eqb}
 use Rattle.words.specs.Parts.{part, amongEight}
 use Rattle.words.proofs.Parts.{length-part}
 use Rattle.words.proofs.Eight.{below-eight}
-use Rattle.paper.specs.Grammar.{Bytes, onFirst, lines, got}
-use Rattle.paper.proofs.Reading.{inField, takes-polynomial}
-use Rattle.reader.specs.Search.{Without, FirstOrEnd, LineEnd, EndsField, WholeField, FieldEnd}
+use Rattle.paper.specs.Grammar.{Bytes, onFirst, lines}
+use Rattle.reader.specs.Search.{Without, FirstOrEnd, LineEnd}
 
 -- ---- b is none of the bytes from at up to i
 module _ (b : ℕ) (s : Bytes) (at : ℕ) where
@@ -71,40 +66,4 @@ line-end text at r f =
       last = λ h l.
           let p : part at (r - at) text ≡ drop at text = take-all (r - at) (drop at text) (omega (arith, length-drop at text)) in
           ap lines (sym p) ∙ lines-last (part at (r - at) text) (omega (arith, ap length p, length-drop at text)) (part-without text at 10 r (f .without));
-    }
-
--- ---- fields
-every-at : (f : ℕ → Bool) (k : ℕ) (l : Bytes) → every f (take k l) ≡ true → (j : ℕ) → j < k → j < length l → f (getD l j 0) ≡ true
-unfolding every
-every-at f zero l e j h i = absurd (not-suc-le-zero h)
-every-at f (suc k) [] e j h i = absurd (not-suc-le-zero i)
-every-at f (suc k) (b ∷ l) e zero h i = and-left (f b) (every f (take k l)) e
-every-at f (suc k) (b ∷ l) e (suc j) h i = every-at f k l (and-right (f b) (every f (take k l)) e) j (le-of-suc-le-suc h) (le-of-suc-le-suc i)
-
--- no tab stands at a place of the first k bytes from at on
-no-tab : (s : Bytes) (at k j : ℕ) → every (λ x. not (eqb x 9)) (take k (drop at s)) ≡ true → at ≤ j → j < at + k → j < length s → getD s j 0 ≡ 9 → ⊥
-no-tab s at k j e h l i t =
-    let p : at + (j - at) ≡ j = omega arith in
-    let b : getD (drop at s) (j - at) 0 ≡ 9 = rw (getD-drop at s (j - at) 0, p) t in
-    let n = every-at (λ x. not (eqb x 9)) k (drop at s) e (j - at) (omega arith) (omega (arith, length-drop at s)) in
-    eqb-false (getD (drop at s) (j - at) 0) 9 (not-true (eqb (getD (drop at s) (j - at) 0) 9) n) b
-
-ends-tab : (s : Bytes) (e : ℕ) → e < length s → EndsField (drop e s) → getD s e 0 ≡ 9
-ends-tab s e h t = subst (λ (l : Bytes). EndsField l) (drop-cons s e 0 h) t
-
-pub field-end : (s : Bytes) (at r : ℕ) → at ≤ length s → WholeField s at → FirstOrEnd 9 s at r → FieldEnd s at r
-unfolding inField
-field-end s at r h w f =
-    let a = takes-polynomial (drop at s) (w .written) (w .rest) (w .reads) in
-    let e : ℕ = at + a .taken in
-    let i : e ≤ length s = omega (arith, a .inside, length-drop at s) in
-    let d : w .rest ≡ drop e s = a .rest ∙ drop-drop (a .taken) at s in
-    let o = f .without .onward in
-    let n = f .without .inside in
-    let early : r < e → ⊥ = λ l. no-tab s at (a .taken) r (a .clear) o l (omega arith) (f .found (omega arith)) in
-    let late : e < r → ⊥ = λ l. f .without .none e l (omega arith) (ends-tab s e (omega arith) (rw d at (w .ends))) in
-    let same : e ≡ r = omega arith in
-    record {
-      written = w .written;
-      taken = record { reads = w .reads ∙ ap (λ (l : Bytes). got (w .written) l) (d ∙ ap (λ (k : ℕ). drop k s) same); onward = o; inside = n };
     }

@@ -4,14 +4,15 @@ use mathlib.Core.Bool.{false}
 use mathlib.Core.Logic.{_⊎_}
 use Prim.Native.Nat.{ℕ, _^_, _≤_}
 use lib.ListN.{length, drop}
-use Rattle.limits.specs.Verdicts.{FORM, NUMBER}
-use Rattle.paper.specs.Grammar.{Bytes, Reader, got, digits, decimal}
+use Rattle.limits.specs.Verdicts.{ACCEPTED, FORM, NUMBER}
+use Rattle.paper.specs.Grammar.{Bytes, Reader, got, digits}
 use Rattle.paper.specs.Statement.{within}
 use Rattle.reader.specs.Places.{Got, Fails}
 use Rattle.reader.specs.declared.number.Decimal.{Decimal}
 use Rattle.reader.specs.declared.number.Decimal.the-variants.{Value, Large, Stuck}
 use Rattle.reader.specs.declared.number.Number.{Number}
 use Rattle.reader.specs.declared.number.Number.the-variants.{Value as Ranged, Refused}
+use Rattle.reader.specs.declared.number.Refusal.{Refusal}
 
 -- a number that no word holds ends at e
 pub record TooLarge (read : Reader ℕ) (s : Bytes) (at e : ℕ) : Type 0 where
@@ -32,22 +33,27 @@ pub record DigitsEnd (s : Bytes) (at e : ℕ) : Type 0 where
   pub inside : e ≤ length s
 
 -- a decimal outside a range is NUMBER, no decimal is FORM
-abbrev pub refusalOf : Decimal → Number
-refusalOf (Value n e) = Refused NUMBER e
-refusalOf (Large e) = Refused NUMBER e
-refusalOf (Stuck p) = Refused FORM p
+abbrev pub outsideOf : Decimal → Number
+outsideOf (Value n e) = Refused NUMBER e
+outsideOf (Large e) = Refused NUMBER e
+outsideOf (Stuck p) = Refused FORM p
 
 -- a number in the range ends at e, and one outside it does
-pub record InRange (low high : ℕ) (s : Bytes) (at v e : ℕ) : Type 0 where
+pub record InRange (read : Reader ℕ) (low high : ℕ) (s : Bytes) (at v e : ℕ) : Type 0 where
   pub above : low ≤ v
   pub below : v ≤ high
-  pub taken : Got decimal s at v e
+  pub taken : Got read s at v e
 
-pub record OutOfRange (low high : ℕ) (s : Bytes) (at e : ℕ) : Type 0 where
+pub record OutOfRange (read : Reader ℕ) (low high : ℕ) (s : Bytes) (at e : ℕ) : Type 0 where
   pub value : ℕ
   pub outside : within low high value ≡ false
-  pub taken : Got decimal s at value e
+  pub taken : Got read s at value e
 
-abbrev pub NumberIs : ℕ → ℕ → Bytes → ℕ → Number → Type 0
-NumberIs low high s at (Ranged v e) = InRange low high s at v e
-NumberIs low high s at (Refused why e) = ((why ≡ NUMBER) × OutOfRange low high s at e) ⊎ ((why ≡ FORM) × Fails decimal s at e)
+abbrev pub NumberIs : Reader ℕ → ℕ → ℕ → Bytes → ℕ → Number → Type 0
+NumberIs read low high s at (Ranged v e) = InRange read low high s at v e
+NumberIs read low high s at (Refused why e) = ((why ≡ NUMBER) × OutOfRange read low high s at e) ⊎ ((why ≡ FORM) × Fails read s at e)
+
+-- how a number was refused
+abbrev pub refusedOf : Number → Refusal
+refusedOf (Ranged v e) = record { why = ACCEPTED; end = e }
+refusedOf (Refused why e) = record { why = why; end = e }

@@ -1,14 +1,11 @@
--- Where a byte first stands, and where a line of a text and a field of a line end.
+-- Where a byte first stands, and where a line of a text ends.
 use mathlib.Core.Path.{_≡_}
 use mathlib.Core.Bool.{true, false}
 use mathlib.Core.List.{[], _∷_}
 use Prim.Native.Nat.{ℕ, _+_, _-_, _≤_, _<_}
-use Prim.Native.Char.{code}
 use lib.ListN.{length, drop, getD}
 use Rattle.words.specs.Parts.{part}
-use Rattle.paper.specs.Grammar.{Bytes, lines, got, polynomial}
-use Rattle.paper.specs.Statement.{Written}
-use Rattle.reader.specs.Places.{Got}
+use Rattle.paper.specs.Grammar.{Bytes, lines}
 
 -- b does not stand from at up to r
 pub record Without (b : ℕ) (s : Bytes) (at r : ℕ) : Type 0 where
@@ -27,20 +24,3 @@ pub record LineEnd (text : Bytes) (at r : ℕ) : Type 0 where
   pub inside : r ≤ length text
   pub ended : r < length text → lines (drop at text) ≡ record { content = part at (r - at) text; ended = true } ∷ lines (drop (r + 1) text)
   pub last : at < length text → length text ≤ r → lines (drop at text) ≡ record { content = part at (r - at) text; ended = false } ∷ []
-
--- nothing, or a tab first
-abbrev pub EndsField : Bytes → Type 0
-EndsField [] = Unit {0}
-EndsField (b ∷ r) = b ≡ code "\t"
-
--- a polynomial stands at at, and a tab or nothing behind it
-pub record WholeField (s : Bytes) (at : ℕ) : Type 0 where
-  pub written : Written
-  pub rest : Bytes
-  pub reads : polynomial (drop at s) ≡ got written rest
-  pub ends : EndsField rest
-
--- the polynomial at at ends at r
-pub record FieldEnd (s : Bytes) (at r : ℕ) : Type 0 where
-  pub written : Written
-  pub taken : Got polynomial s at written r

@@ -1,9 +1,9 @@
-// Searches for one byte: where a line ends in a text, and where a field ends in a line.
+// Searches for one byte: where a line ends in a text.
 ghost use mathlib.Core.Path.{_≡_};
 ghost use Prim.Native.Nat.{_+_, _≤_};
 ghost use lib.ListN.{length};
 ghost use Rattle.words.specs.Parts.{amongEight};
-ghost use Rattle.reader.specs.Search.{Without, FirstOrEnd, LineEnd, WholeField, FieldEnd};
+ghost use Rattle.reader.specs.Search.{Without, FirstOrEnd, LineEnd};
 
 // How many bytes are looked at in one turn: the compiler makes one test of so many.
 const BLOCK: usize = 8;
@@ -59,12 +59,4 @@ pub fn line_end(text: &[u8], at: usize) -> usize
     ensures { λ r. ⌜ LineEnd (now (text .entry)) at r ⌝ }
 {
     find_byte(text, at, b'\n')
-}
-
-// The end of the polynomial at at, with a tab or nothing behind it.
-pub fn skip_field(s: &[u8], at: usize) -> usize
-    requires { ⌜ (at ≤ length (now s)) × WholeField (now s) at ⌝ }
-    ensures { λ r. ⌜ FieldEnd (now (s .entry)) at r ⌝ }
-{
-    find_byte(s, at, b'\t')
 }

@@ -4,7 +4,7 @@ ghost use mathlib.Core.Path.{_≡_};
 ghost use lib.Dec.{leb};
 ghost use lib.ListN.{length};
 ghost use Rattle.paper.specs.Grammar.{digits, decimal};
-ghost use Rattle.reader.specs.Numbers.{DecimalIs, DigitsEnd, refusalOf, NumberIs};
+ghost use Rattle.reader.specs.Numbers.{DecimalIs, DigitsEnd, outsideOf, NumberIs, refusedOf};
 
 // A decimal's value, where it is below 2 ^ 64, and its end; the end of one that is not; or the place where there is none.
 pub enum Decimal {
@@ -14,9 +14,15 @@ pub enum Decimal {
 }
 
 // A number in its range with its end, or the number of the refusal with the end of the decimal or the place where there is none.
-pub(crate) enum Number {
+pub enum Number {
     Value(u64, usize),
     Refused(u64, usize),
+}
+
+// The number of a refusal, and where it ends.
+pub struct Refusal {
+    pub why: u64,
+    pub end: usize,
 }
 
 // A tenth of 2 ^ 64: a digit behind a smaller value always fits.
@@ -99,8 +105,8 @@ pub fn decimal_at(s: &[u8], at: usize) -> Decimal
 }
 
 // How a decimal that is no number in its range is refused.
-fn refusal(d: Decimal) -> Number
-    ensures { λ r. ⌜ r ≡ refusalOf d ⌝ }
+fn outside(d: Decimal) -> Number
+    ensures { λ r. ⌜ r ≡ outsideOf d ⌝ }
 {
     match d {
         Decimal::Value(_, e) => Number::Refused(limits::NUMBER, e),
@@ -110,19 +116,32 @@ fn refusal(d: Decimal) -> Number
 }
 
 // The number at at, from low to high.
-pub(crate) fn number_at(s: &[u8], at: usize, low: u64, high: u64) -> Number
+pub fn number_at(s: &[u8], at: usize, low: u64, high: u64) -> Number
     requires { ⌜ at ≤ length (now s) ⌝ }
-    ensures { λ r. ⌜ NumberIs low high (now (s .entry)) at r ⌝ }
+    ensures { λ r. ⌜ NumberIs decimal low high (now (s .entry)) at r ⌝ }
 {
     let d = decimal_at(s, at);
     let Decimal::Value(v, e) = d else {
-        return refusal(d);
+        return outside(d);
     };
     if v < low {
-        return refusal(d);
+        return outside(d);
     }
     if high < v {
-        return refusal(d);
+        return outside(d);
     }
     Number::Value(v, e)
+}
+
+// How a number was refused; one in its range was not.
+pub fn refused(n: Number) -> Refusal
+    ensures { λ r. ⌜ r ≡ refusedOf n ⌝ }
+{
+    match n {
+        Number::Value(_, end) => Refusal {
+            why: limits::ACCEPTED,
+            end,
+        },
+        Number::Refused(why, end) => Refusal { why, end },
+    }
 }

@@ -1,37 +1,37 @@
 -- The verdict of a field before any room is looked at, and what the definitions of the paper say for each. Assumes nothing.
 use mathlib.Core.Path.{_≡_, refl, sym, ap, _∙_}
 use mathlib.Core.Bool.{Bool, true, false, _&&_, not, cond, and-false}
-use mathlib.Core.List.{[], _∷_}
+use mathlib.Core.Logic.{⊎-elim}
+use mathlib.Core.List.{List, [], _∷_}
 use Prim.Native.Nat.{ℕ, _≤_, _<_}
 use native.Mathlib.Omega.{arith}
 use lib.Dec.{eqb, ltb}
 use lib.ListN.{length, drop, length-drop, drop-of-length-le}
-use borrow.Author.Tests.{not-false}
 use Rattle.ground.proofs.Tests.{by-cond, and-both}
-use Rattle.limits.specs.Limits.{greatestRing}
+use Rattle.limits.specs.Limits.{greatestRing, greatestMagnitude}
 use Rattle.limits.specs.Verdicts.{ACCEPTED, SHORT, FORM, NUMBER, TERMS, FULL}
 use Rattle.paper.specs.Grammar.{Bytes, Read, got, stuck, next, end, polynomial}
-use Rattle.paper.specs.Statement.{Written, isRing, inRange, tooManyTerms, reduced}
+use Rattle.paper.specs.Statement.{Written, modulo, isRing, inRange, tooManyTerms, reduced}
 use Rattle.paper.specs.Rules.{first}
 use Rattle.paper.specs.Spelling.{Spelled, refuse, spell, spellingRules, spellRead, wholeField}
 use Rattle.paper.proofs.ReadBack.{whole-end}
-use Rattle.reader.specs.Places.{Fails}
-use Rattle.reader.specs.Fields.{fewTerms, Scanned}
+use Rattle.reader.specs.Fields.{FieldAt, FieldIs}
+use Rattle.reader.specs.declared.field.FieldRead.{FieldRead}
 use Rattle.reader.proofs.Numbers.{within-yes, within-below, within-above}
-use Rattle.fields.proofs.Ranges.{is-field, field-range, field-few}
+use Rattle.reader.proofs.Ranges.{field-fine, field-holds}
 use Rattle.speller.specs.Spells.{fitted, Accepts, Judged}
 
 -- ---- k
 module _ (k : ℕ) where
-  pub ring-low : k ≡ 0 → isRing k ≡ false
+  pub ring-low : k ≡ 0 → isRing (modulo k) ≡ false
   unfolding isRing
   ring-low h = within-below 1 greatestRing k (omega arith)
 
-  pub ring-high : greatestRing < k → isRing k ≡ false
+  pub ring-high : greatestRing < k → isRing (modulo k) ≡ false
   unfolding isRing
   ring-high h = within-above 1 greatestRing k h
 
-  pub ring-inside : 1 ≤ k → k ≤ greatestRing → isRing k ≡ true
+  pub ring-inside : 1 ≤ k → k ≤ greatestRing → isRing (modulo k) ≡ true
   unfolding isRing
   ring-inside h l = within-yes 1 greatestRing k h l
 
@@ -47,11 +47,11 @@ whole-some s (b ∷ t) p e h = ap (λ (r : Read Written). next r (λ p s. next (
 
 -- ---- the rules
 module _ (k room : ℕ) (p : Written) where
-  pub request-number : (isRing k && inRange p) ≡ false → spellRead k room (got p []) ≡ refuse NUMBER
+  pub request-number : (isRing (modulo k) && inRange p) ≡ false → spellRead k room (got p []) ≡ refuse NUMBER
   unfolding spellRead spellingRules first
   request-number e = rw e
 
-  module _ (e : (isRing k && inRange p) ≡ true) where
+  module _ (e : (isRing (modulo k) && inRange p) ≡ true) where
     pub request-terms : tooManyTerms p ≡ true → spellRead k room (got p []) ≡ refuse TERMS
     unfolding spellRead spellingRules first
     request-terms f = rw (e, f)
@@ -68,70 +68,70 @@ module _ (k room : ℕ) (p : Written) where
         go false = refl
 
 -- ---- the verdict
-judged-refused : (field : Bytes) (k v : ℕ) → 0 < v → ((room : ℕ) → spellRead k room (wholeField field) ≡ refuse v) → Judged field k v
-judged-refused field k v h f = record { refused = λ n. f; accepted = λ z. absurd (let y : ⊥ = omega arith in y) }
+not-form : (a b : Bool) → first ((NUMBER, a) ∷ (TERMS, b) ∷ []) ≡ FORM → ⊥
+unfolding first
+not-form true b e = omega arith
+not-form false true e = omega arith
+not-form false false e = omega arith
 
-module _ (field : Bytes) (k : ℕ) where
-  pub judged-stuck : {p : ℕ} → Fails polynomial field 0 p → Judged field k FORM
+refused-as : {field : Bytes} {k : ℕ} {words : List ℕ} {n : ℕ} (v : ℕ) → 0 < v → ((room : ℕ) → spellRead k room (wholeField field) ≡ refuse v) → Judged field k words n v
+refused-as v l e = record { refused = λ n. e; accepted = λ z. absurd (let y : ⊥ = omega arith in y) }
+
+module _ {field : Bytes} {s r : List ℕ} {f : FieldRead} (h : FieldIs greatestMagnitude field 0 s r f) where
+  pub judged-stuck : {k : ℕ} → f .why ≡ FORM → Judged field k r (f .terms) (f .why)
   unfolding spellRead
-  judged-stuck {p} h = judged-refused field k FORM (omega arith) (λ room. ap (spellRead k room) (whole-stuck field (drop p field) (h .reads)))
+  judged-stuck {k} e =
+      refused-as (f .why) (omega arith)
+      (λ room. ⊎-elim (λ x. ap (spellRead k room) (whole-stuck field (drop (f .end) field) (x .stops .reads)) ∙ ap refuse (sym e))
+      (λ x. absurd (not-form _ _ (sym (x .verdict) ∙ e))) (h .said))
 
-  module _ {e : ℕ} {a b : Bool} (s : Scanned polynomial inRange fewTerms field 0 e a b) where
-    pub judged-some : (e ≡ length field → ⊥) → Judged field k FORM
+  module _ (n : f .why ≡ FORM → ⊥) where
+    took : FieldAt greatestMagnitude field 0 s r f
+    took = ⊎-elim (λ x. absurd (n (ap (λ (g : FieldRead). g .why) (x .gives)))) (λ x. x) (h .said)
+
+    pub judged-some : {k : ℕ} → (f .end ≡ length field → ⊥) → Judged field k r (f .terms) FORM
     unfolding spellRead
-    judged-some n =
-        judged-refused field k FORM (omega arith)
-        (λ room. ap (spellRead k room) (whole-some field (drop e field) (s .value) (s .taken .reads) (omega (arith, length-drop e field, s .taken .inside))))
+    judged-some {k} e =
+        refused-as FORM (omega arith)
+        (λ room. ap (spellRead k room) (whole-some field (drop (f .end) field) (took .value) (took .taken .reads) (omega (arith, length-drop (f .end) field, took .taken .inside))))
 
-    module _ (q : e ≡ length field) where
-      ended : polynomial field ≡ got (s .value) []
-      ended = s .taken .reads ∙ ap (λ (r : Bytes). got (s .value) r) (drop-of-length-le field {i = e} (omega arith))
+    module _ (e : f .end ≡ length field) where
+      ended : polynomial field ≡ got (took .value) []
+      ended = took .taken .reads ∙ ap (λ (t : Bytes). got (took .value) t) (drop-of-length-le field {i = f .end} (omega arith))
 
-      whole : (room : ℕ) → spellRead k room (wholeField field) ≡ spellRead k room (got (s .value) [])
-      unfolding spellRead
-      whole room = ap (spellRead k room) (whole-end field (s .value) ended)
+      whole : (k room : ℕ) → spellRead k room (wholeField field) ≡ spellRead k room (got (took .value) [])
+      whole k room = ap (spellRead k room) (whole-end field (took .value) ended)
 
-      pub judged-range : a ≡ false → Judged field k NUMBER
-      judged-range n =
-          judged-refused field k NUMBER (omega arith)
-          (λ room. whole room ∙ request-number k room (s .value) (ap (λ (x : Bool). isRing k && x) (sym (s .in-range) ∙ n) ∙ and-false (isRing k)))
+      pub judged-ring : {k : ℕ} → isRing (modulo k) ≡ false → Judged field k r (f .terms) NUMBER
+      judged-ring {k} g =
+          refused-as NUMBER (omega arith) (λ room. whole k room ∙ request-number k room (took .value) (ap (λ (x : Bool). x && inRange (took .value)) g))
 
-      pub judged-ring : isRing k ≡ false → Judged field k NUMBER
-      judged-ring n =
-          judged-refused field k NUMBER (omega arith)
-          (λ room. whole room ∙ request-number k room (s .value) (ap (λ (x : Bool). x && inRange (s .value)) n))
-
-      module _ (r : a ≡ true) (g : isRing k ≡ true) where
-        pub judged-terms : b ≡ false → Judged field k TERMS
-        unfolding fewTerms
-        judged-terms n =
-            judged-refused field k TERMS (omega arith)
-            (λ room. whole room ∙ request-terms k room (s .value) (and-both (isRing k) (inRange (s .value)) g (sym (s .in-range) ∙ r)) (not-false (tooManyTerms (s .value)) (sym (s .short) ∙ n)))
-
-        pub judged-accepted : b ≡ true → Judged field k ACCEPTED
-        judged-accepted t = record {
-          refused = λ n. absurd (n refl);
-          accepted = λ _. record {
-            value = s .value;
-            reads = ended;
-            passes = is-field (s .value) (sym (s .in-range) ∙ r) (sym (s .short) ∙ t);
-            ring = g;
-          };
-        }
+      pub judged-read : {k : ℕ} → isRing (modulo k) ≡ true → Judged field k r (f .terms) (f .why)
+      unfolding first
+      judged-read {k} g = record {
+        refused = λ z room. whole k room ∙ verdict room _ _ (sym (field-fine (took .value))) refl (λ y. z (took .verdict ∙ y)) ∙ ap refuse (sym (took .verdict));
+        accepted = λ z. let w = field-holds took z in (record { value = took .value; reads = ended; ranged = w .ranged; short = w .short; ring = g }, w);
+      }
+        where
+          verdict : (room : ℕ) (x y : Bool) → inRange (took .value) ≡ x → tooManyTerms (took .value) ≡ y → (first ((NUMBER, not x) ∷ (TERMS, y) ∷ []) ≡ ACCEPTED → ⊥)
+              → spellRead k room (got (took .value) []) ≡ refuse (first ((NUMBER, not x) ∷ (TERMS, y) ∷ []))
+          verdict room false y a b z = request-number k room (took .value) (ap (λ (x : Bool). isRing (modulo k) && x) a ∙ and-false (isRing (modulo k)))
+          verdict room true true a b z = request-terms k room (took .value) (and-both (isRing (modulo k)) (inRange (took .value)) g a) b
+          verdict room true false a b z = absurd (z refl)
 
 -- ---- an accepted field
 pub accepted-fitted : (field : Bytes) (k room : ℕ) (a : Accepts field k) → spellRead k room (wholeField field) ≡ fitted (spell k (reduced k (a .value))) room
 unfolding spellRead
 accepted-fitted field k room a =
     ap (spellRead k room) (whole-end field (a .value) (a .reads))
-    ∙ request-fitted k room (a .value) (and-both (isRing k) (inRange (a .value)) (a .ring) (field-range (a .value) (a .passes))) (field-few (a .value) (a .passes))
+    ∙ request-fitted k room (a .value) (and-both (isRing (modulo k)) (inRange (a .value)) (a .ring) (a .ranged)) (a .short)
 
 -- no verdict of these is SHORT
 pub not-short : (k room : ℕ) (r : Read Written) → eqb (spellRead k room r .verdict) SHORT ≡ false
 unfolding spellRead spellingRules first
 not-short k room (stuck s) = refl
 not-short k room (got p s) =
-    by-cond (λ (v : ℕ). P v) (not (isRing k && inRange p)) (λ _. refl)
+    by-cond (λ (v : ℕ). P v) (not (isRing (modulo k) && inRange p)) (λ _. refl)
     (λ _. by-cond (λ (v : ℕ). P v) (tooManyTerms p) (λ _. refl)
     (λ _. by-cond (λ (v : ℕ). P v) (ltb room (length (spell k (reduced k p)))) (λ _. refl) (λ _. refl)))
   where

@@ -1,17 +1,15 @@
 -- What the spelling writer leaves, by the paper's definitions.
 use mathlib.Core.Path.{_≡_}
-use mathlib.Core.Bool.{true, cond}
+use mathlib.Core.Bool.{true, false, cond}
 use mathlib.Core.List.{List, []}
-use Prim.Native.Nat.{ℕ, _≤_}
+use Prim.Native.Nat.{ℕ}
 use lib.Dec.{ltb}
 use lib.ListN.{length}
-use Rattle.limits.specs.Limits.{fieldTerms}
 use Rattle.limits.specs.Verdicts.{ACCEPTED, FULL}
-use Rattle.terms.specs.Terms.{decode}
 use Rattle.paper.specs.Grammar.{Bytes, got, polynomial}
-use Rattle.paper.specs.Statement.{Written, isRing, reduced}
+use Rattle.paper.specs.Statement.{Written, modulo, isRing, inRange, tooManyTerms}
 use Rattle.paper.specs.Spelling.{Spelled, refuse, spellRead, wholeField, spellField, outputAfter, scratchAfter}
-use Rattle.fields.specs.Fields.{isField}
+use Rattle.written.specs.Worded.{Holds}
 use Rattle.speller.specs.declared.Spelled.{Spelled as Answer}
 
 -- the answer r with the output afterwards is what x says
@@ -39,17 +37,11 @@ fitted w room = cond (ltb room (length w)) (refuse FULL) (record { verdict = ACC
 pub record Accepts (field : Bytes) (k : ℕ) : Type 0 where
   pub value : Written
   pub reads : polynomial field ≡ got value []
-  pub passes : isField value ≡ true
-  pub ring : isRing k ≡ true
+  pub ranged : inRange value ≡ true
+  pub short : tooManyTerms value ≡ false
+  pub ring : isRing (modulo k) ≡ true
 
--- v is the verdict before any room is looked at
-pub record Judged (field : Bytes) (k v : ℕ) : Type 0 where
+-- v is the verdict before any room is looked at; an accepted field stands in the n terms at the front of the words
+pub record Judged (field : Bytes) (k : ℕ) (words : List ℕ) (n v : ℕ) : Type 0 where
   pub refused : (v ≡ ACCEPTED → ⊥) → (room : ℕ) → spellRead k room (wholeField field) ≡ refuse v
-  pub accepted : v ≡ ACCEPTED → Accepts field k
-
--- the words hold the reduced form of the field, m terms
-pub record Holds (field : Bytes) (k : ℕ) (words : List ℕ) (m : ℕ) : Type 0 where
-  pub value : Written
-  pub reads : polynomial field ≡ got value []
-  pub terms : decode m words ≡ reduced k value
-  pub few : m ≤ fieldTerms
+  pub accepted : v ≡ ACCEPTED → (a : Accepts field k) × Holds (a .value) n 0 words

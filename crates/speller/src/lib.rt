@@ -1,14 +1,16 @@
 // The spelling writer: a polynomial field in its one fixed spelling.
 ghost use mathlib.Core.Path.{_≡_};
-ghost use Prim.Native.Nat.{_*_, _≤_};
+ghost use mathlib.Core.List.{List};
+ghost use Prim.Native.Nat.{ℕ, _*_, _≤_};
 ghost use lib.ListN.{length};
-ghost use Rattle.limits.specs.Limits.{fieldTerms, termWords, leastSpellingScratch};
+ghost use Rattle.limits.specs.Limits.{greatestMagnitude, fieldTerms, termWords, leastSpellingScratch};
+ghost use Rattle.algebra.specs.Polynomial.{reduce};
 ghost use Rattle.terms.specs.Terms.{decode};
 ghost use Rattle.paper.specs.Spelling.{spell, spellRead, wholeField};
-ghost use Rattle.writer.specs.Writing.{Cut};
-ghost use Rattle.speller.specs.Spells.{Gives, Spells, fitted, Accepts, Judged, Holds};
-use reader::field::FieldScan;
-use reader::field::scan_field;
+ghost use Rattle.reader.specs.Fields.{FieldIs};
+ghost use Rattle.speller.specs.Spells.{Gives, Spells, fitted, Judged};
+use reader::field::FieldRead;
+use reader::field::read_field;
 
 // The verdict, and how many bytes were written.
 pub struct Spelled {
@@ -26,19 +28,15 @@ fn refused(verdict: u64) -> Spelled
     }
 }
 
-// FORM, NUMBER or TERMS for the field at k, or ACCEPTED.
-fn judge(field: &[u8], k: u64) -> u64
-    ensures { λ r. ⌜ Judged (now (field .entry)) k r ⌝ }
+// FORM, NUMBER or TERMS for the field that was read as f, at k, or ACCEPTED.
+fn judge(field: &[u8], k: u64, f: FieldRead) -> u64
+    ensures { λ v. ⌜ ((s r : List ℕ) → FieldIs greatestMagnitude (now (field .entry)) 0 s r f → Judged (now (field .entry)) k r (f .terms) v) ⌝ }
 {
-    let f = scan_field(field, 0);
-    let FieldScan::Field(end, in_range, few) = f else {
-        return limits::FORM;
-    };
-    if end != field.len() {
-        return limits::FORM;
+    if f.why == limits::FORM {
+        return f.why;
     }
-    if !in_range {
-        return limits::NUMBER;
+    if f.end != field.len() {
+        return limits::FORM;
     }
     if k == 0 {
         return limits::NUMBER;
@@ -46,32 +44,21 @@ fn judge(field: &[u8], k: u64) -> u64
     if limits::GREATEST_RING < k {
         return limits::NUMBER;
     }
-    if !few {
-        return limits::TERMS;
-    }
-    limits::ACCEPTED
+    f.why
 }
 
-// Reads and reduces the field into the scratch, and gives how many terms there are.
-fn reduce_field(field: &[u8], k: u32, scratch: &mut [u64]) -> usize
-    requires { ⌜ Accepts (now field) k × (leastSpellingScratch ≤ length (now scratch)) ⌝ }
-    ensures { λ r. ⌜ Holds (now (field .entry)) k (now (scratch .exit)) r ⌝ }
+// Reduces a run of n terms in place and writes what is left, if the output has room for it.
+fn write_reduced(s: &mut [u64], n: usize, k: u32, out: &mut [u8]) -> Spelled
+    requires { ⌜ (1 ≤ k) × (k ≤ 64) × (n ≤ fieldTerms) × (n * termWords ≤ length (now s)) ⌝ }
+    ensures { λ r. ⌜ Gives (fitted (spell k (reduce k (decode n (now (s .entry))))) (length (now (out .entry)))) (now (out .entry)) (now (out .exit)) r ⌝ }
 {
-    let f = fields::read_field(field, 0, scratch);
-    reduction::reduce(scratch, f.terms, k)
-}
-
-// Writes a run of n terms, if the output has room for it.
-fn write_fitting(s: &[u64], n: usize, k: u32, out: &mut [u8]) -> Spelled
-    requires { ⌜ (1 ≤ k) × (k ≤ 64) × (n ≤ fieldTerms) × (n * termWords ≤ length (now s)) × Cut k (decode n (now s)) ⌝ }
-    ensures { λ r. ⌜ Gives (fitted (spell k (decode n (now (s .entry)))) (length (now (out .entry)))) (now (out .entry)) (now (out .exit)) r ⌝ }
-{
-    if !writer::measure::run_fits(s, n, k, out.len()) {
+    let m = reduction::reduce(s, n, k);
+    if !writer::measure::run_fits(s, m, k, out.len()) {
         return refused(limits::FULL);
     }
     Spelled {
         verdict: limits::ACCEPTED,
-        written: writer::write::write_run(out, s, n, k),
+        written: writer::write::write_run(out, s, m, k),
     }
 }
 
@@ -80,12 +67,12 @@ fn spell_within(field: &[u8], k: u64, scratch: &mut [u64], out: &mut [u8]) -> Sp
     requires { ⌜ leastSpellingScratch ≤ length (now scratch) ⌝ }
     ensures { λ r. ⌜ Gives (spellRead k (length (now (out .entry))) (wholeField (now (field .entry)))) (now (out .entry)) (now (out .exit)) r ⌝ }
 {
-    let v = judge(field, k);
+    let f = read_field(field, 0, scratch, limits::GREATEST_MAGNITUDE);
+    let v = judge(field, k, f);
     if v != limits::ACCEPTED {
         return refused(v);
     }
-    let n = reduce_field(field, k as u32, scratch);
-    write_fitting(scratch, n, k as u32, out)
+    write_reduced(scratch, f.terms, k as u32, out)
 }
 
 // Writes the field's spelling at k into the output. Refused, the output stays as it is; the scratch is zero afterwards,

@@ -1,159 +1,170 @@
 -- What the checks of an ext line and of a lin line say. Assumes nothing.
 use mathlib.Core.Path.{_≡_, refl, sym, ap, ap₂, subst, _∙_}
-use mathlib.Core.Bool.{Bool, true, false, not, cond}
-use mathlib.Core.List.{List}
+use mathlib.Core.Bool.{Bool, true, false, not}
+use mathlib.Core.List.{List, [], _∷_}
 use Prim.Native.Nat.{ℕ, _*_, _^_, _≤_, _<_}
 use native.Mathlib.Omega.{arith}
 use lib.Bits.{bitOr}
 use lib.Dec.{ltb}
-use lib.ListN.{length, drop}
+use lib.ListN.{length, drop, replicate}
 use borrow.Author.Tests.{lt-ltb, le-ltb}
 use Rattle.ground.proofs.Lists.{drop-more}
 use Rattle.words.specs.Parts.{Within}
-use Rattle.limits.specs.Limits.{greatestRing, fieldTerms, lineProducts}
-use Rattle.limits.specs.Verdicts.{MISSING, SEEN, PRODUCTS, MISMATCH, NOTBIT}
-use Rattle.algebra.specs.Polynomial.{Poly, has, vars, equal, reduce, product, extension}
+use Rattle.limits.specs.Limits.{greatestRing, setWords, lineProducts}
+use Rattle.limits.specs.Verdicts.{SEEN, PRODUCTS, MISMATCH, NOTBIT}
+use Rattle.algebra.specs.Polynomial.{Poly, has, equal, reduce, product, extension}
 use Rattle.algebra.proofs.Unions.{or-assoc}
 use Rattle.words.specs.Words.{number}
 use Rattle.terms.specs.Terms.{decode}
-use Rattle.terms.proofs.Decode.{decode-length, decode-above}
+use Rattle.terms.proofs.Decode.{decode-length, decode-above, decode-below}
 use Rattle.terms.proofs.Rounding.{reduce-rounded}
-use Rattle.paper.specs.Grammar.{Bytes}
-use Rattle.paper.specs.Statement.{Pair, reduced}
-use Rattle.paper.specs.Rules.{Store, find, combination}
-use Rattle.fields.specs.declared.FieldRun.{FieldRun}
-use Rattle.regions.specs.Regions.{statedAt, factorAt, goalAt, ReducedAt, StatedIs}
-use Rattle.pairs.specs.declared.Sum.{Sum}
-use Rattle.pairs.specs.Pairs.{PairsAt, allStored, productsOf, Summed}
-use Rattle.pairs.proofs.Adding.{kept-stated}
-use Rattle.steps.specs.declared.check.Checked.{Checked}
-use Rattle.steps.specs.Parts.{sums, extends}
-use Rattle.steps.specs.Checks.{Extends, Sums, AddsUp}
-use Rattle.steps.proofs.Rows.{two-stop, two-later}
+use Rattle.paper.specs.Statement.{Written, Pair, reduced}
+use Rattle.paper.specs.Rules.{first, Store, find, combination, shows, showsAll}
+use Rattle.scratch.specs.Scratch.{statedAt, factorAt, goalAt, RunAt, ReducedAt}
+use Rattle.scratch.specs.declared.Reduced.{Reduced}
+use Rattle.sums.specs.declared.Sum.{Sum}
+use Rattle.sums.specs.Rows.{Rows, orElse}
+use Rattle.sums.specs.Sums.{factorsOf, productsOf, pairRows, Summed}
+use Rattle.sums.proofs.Rows.{else-stop, first-append}
+use Rattle.steps.specs.declared.check.Candidate.{Candidate}
+use Rattle.steps.specs.Parts.{linRows, extRows, CandidateIs}
+
+refused : {rows : Rows} {q : Poly} {made shown : ℕ} {s r : List ℕ} (why : ℕ) → (why ≡ 0 → ⊥) → why ≡ first rows → drop goalAt r ≡ drop goalAt s → length r ≡ length s
+    → {c : Candidate} → c ≡ record { verdict = why; terms = 0; products = 0; seen = replicate setWords 0 } → CandidateIs rows q made shown s r c
+refused {rows} {q} {made} {shown} {s} {r} why l e g h u = subst (CandidateIs rows q made shown s r) (sym u) (record {
+  verdict = e;
+  run = λ z. absurd (l z);
+  few = λ z. absurd (l z);
+  count = λ z. absurd (l z);
+  most = λ z. absurd (l z);
+  seen = λ z. absurd (l z);
+  goal = g;
+  same = h;
+})
+
+-- ---- in
+pub input-candidate : {k : ℕ} {p : Written} {f : Reduced} {s x : List ℕ} (seen all : List ℕ) → ReducedAt k p statedAt s x f → number all ≡ bitOr (number (f .shown)) (number seen)
+    → CandidateIs [] (reduced k p) 0 (bitOr (shows k p) (number seen)) s x (record { verdict = 0; terms = f .terms; products = 0; seen = all })
+unfolding first
+input-candidate {s = s} {x} seen all d u = record {
+  verdict = refl;
+  run = λ _. d .at .run;
+  few = λ _. d .at .few;
+  count = λ _. refl;
+  most = λ _. omega arith;
+  seen = λ _. u ∙ ap (λ (m : ℕ). bitOr m (number seen)) (d .shown);
+  goal = drop-more factorAt goalAt s x (omega arith) (d .at .within .after);
+  same = d .at .within .same;
+}
 
 -- ---- ext
-module _ (k v n : ℕ) (seen : List ℕ) (s : List ℕ) where
-  abbrev pub Extending : List ℕ → Checked → Type 0
-  Extending r c = Extends k v (decode n (drop statedAt s)) (number seen) s r c
+module _ (k v : ℕ) (seen : List ℕ) {p : Written} {f : Reduced} {s x : List ℕ} (d : ReducedAt k p statedAt s x f) where
+  abbrev Extending : List ℕ → Candidate → Type 0
+  Extending r c =
+      CandidateIs (extRows k (number seen) v p) (extension k v (reduced k p)) (length (reduced k p) * length (reduced k p)) (bitOr (bitOr (2 ^ v) (shows k p)) (number seen)) s r c
 
-  abbrev clash : Bool
-  clash = has (bitOr (vars (decode n (drop statedAt s))) (number seen)) v
+  abbrev rowsOf : Bool → Bool → Bool → ℕ
+  rowsOf clash over bit = first ((SEEN, clash) ∷ (PRODUCTS, over) ∷ (NOTBIT, not bit) ∷ [])
 
-  abbrev bit : Bool
-  bit = equal (product k (decode n (drop statedAt s)) (decode n (drop statedAt s))) (decode n (drop statedAt s))
+  -- the verdict by the tests
+  by-tests : {a b c : Bool} → has (bitOr (shows k p) (number seen)) v ≡ a → ltb lineProducts (length (reduced k p) * length (reduced k p)) ≡ b
+      → equal (product k (reduced k p) (reduced k p)) (reduced k p) ≡ c → rowsOf a b c ≡ first (extRows k (number seen) v p)
+  by-tests e₁ e₂ e₃ = λ i. rowsOf (sym e₁ i) (sym e₂ i) (sym e₃ i)
 
-  -- the verdict, by n
-  by-count : (a b : Bool) → extends a (n * n) b 0 ≡ extends a (length (decode n (drop statedAt s)) * length (decode n (drop statedAt s))) b 0
-  by-count a b = ap (λ (m : ℕ). extends a (m * m) b 0) (sym (decode-length n (drop statedAt s)))
+  long : length (reduced k p) ≡ f .terms
+  long = ap length (sym (d .at .run)) ∙ decode-length (f .terms) (drop statedAt x)
 
-  stopped : (r : List ℕ) (why : ℕ) → 0 < why → why ≡ extends clash (n * n) bit 0 → drop goalAt r ≡ drop goalAt s → length r ≡ length s
-      → {c : Checked} → c ≡ record { verdict = why; terms = 0; products = 0; seen = seen } → Extending r c
-  stopped r why l e g h q = subst (Extending r) (sym q) (record {
-    verdict = e ∙ by-count clash bit;
-    stands = λ z. absurd (let y : ⊥ = omega arith in y);
-    goal = g;
-    same = h;
-  })
+  goal-kept : drop goalAt x ≡ drop goalAt s
+  goal-kept = drop-more factorAt goalAt s x (omega arith) (d .at .within .after)
 
-  module _ (all : List ℕ) (t : Bool) (u : number all ≡ bitOr (vars (decode n (drop statedAt s))) (number seen)) (e : t ≡ has (number all) v) where
-    clashing : t ≡ clash
-    clashing = e ∙ ap (λ (m : ℕ). has m v) u
+  module _ (all : List ℕ) (t : Bool) (u : number all ≡ bitOr (number (f .shown)) (number seen)) (e : t ≡ has (number all) v) where
+    shown-too : number all ≡ bitOr (shows k p) (number seen)
+    shown-too = u ∙ ap (λ (m : ℕ). bitOr m (number seen)) (d .shown)
 
-    pub extends-seen : t ≡ true → {c : Checked} → c ≡ record { verdict = SEEN; terms = 0; products = 0; seen = seen } → Extending s c
-    extends-seen h = stopped s SEEN (omega arith) (ap (λ (b : Bool). extends b (n * n) bit 0) (sym h ∙ clashing)) refl refl
+    clashes : has (bitOr (shows k p) (number seen)) v ≡ t
+    clashes = sym (e ∙ ap (λ (m : ℕ). has m v) shown-too)
 
-    module _ (f : t ≡ false) where
-      unseen : (m : ℕ) (b : Bool) → extends false m b 0 ≡ extends clash m b 0
-      unseen m b = ap (λ (x : Bool). extends x m b 0) (sym f ∙ clashing)
+    pub extends-seen : t ≡ true → {c : Candidate} → c ≡ record { verdict = SEEN; terms = 0; products = 0; seen = replicate setWords 0 } → Extending x c
+    unfolding first
+    extends-seen h = refused SEEN (λ z. omega (arith, z)) (by-tests (clashes ∙ h) refl refl) goal-kept (d .at .within .same)
 
-      pub extends-many : lineProducts < n * n → {c : Checked} → c ≡ record { verdict = PRODUCTS; terms = 0; products = 0; seen = seen } → Extending s c
-      extends-many h = stopped s PRODUCTS (omega arith)
-          (sym (ap (λ (x : Bool). cond x PRODUCTS (cond (not bit) NOTBIT 0)) (lt-ltb lineProducts (n * n) h)) ∙ unseen (n * n) bit) refl refl
+    module _ (h : t ≡ false) where
+      pub extends-many : lineProducts < f .terms * f .terms → {c : Candidate} → c ≡ record { verdict = PRODUCTS; terms = 0; products = 0; seen = replicate setWords 0 } → Extending x c
+      unfolding first
+      extends-many l =
+          refused PRODUCTS (λ z. omega (arith, z)) (by-tests (clashes ∙ h) (ap (λ (m : ℕ). ltb lineProducts (m * m)) long ∙ lt-ltb lineProducts (f .terms * f .terms) l) refl)
+          goal-kept (d .at .within .same)
 
-      module _ (few : n * n ≤ lineProducts) {b : Bool} (x : List ℕ) (w : Within 0 statedAt s x) (d : b ≡ bit) where
-        counted : (y : Bool) → extends false 0 y 0 ≡ extends clash (n * n) y 0
-        counted y = sym (ap (λ (x : Bool). cond x PRODUCTS (cond (not y) NOTBIT 0)) (le-ltb lineProducts (n * n) few)) ∙ unseen (n * n) y
+      module _ (few : f .terms * f .terms ≤ lineProducts) {b : Bool} (y : List ℕ) (w : Within 0 statedAt x y)
+          (q : b ≡ equal (product k (decode (f .terms) (drop statedAt x)) (decode (f .terms) (drop statedAt x))) (decode (f .terms) (drop statedAt x))) where
+        counted : ltb lineProducts (length (reduced k p) * length (reduced k p)) ≡ false
+        counted = ap (λ (m : ℕ). ltb lineProducts (m * m)) long ∙ le-ltb lineProducts (f .terms * f .terms) few
 
-        pub extends-no-bit : b ≡ false → {c : Checked} → c ≡ record { verdict = NOTBIT; terms = 0; products = 0; seen = seen } → Extending x c
-        extends-no-bit h = stopped x NOTBIT (omega arith) (ap (λ (y : Bool). extends false 0 y 0) (sym h ∙ d) ∙ counted bit)
-            (drop-more statedAt goalAt s x (omega arith) (w .after)) (w .same)
+        bit : equal (product k (reduced k p) (reduced k p)) (reduced k p) ≡ b
+        bit = sym (q ∙ ap (λ (y : Poly). equal (product k y y) y) (d .at .run))
 
-        pub extends-all : b ≡ true → (r more : List ℕ) (m : ℕ) → StatedIs (extension k v (decode n (drop statedAt x))) x r m → number more ≡ bitOr (2 ^ v) (number all)
-            → Extending r (record { verdict = 0; terms = m; products = n * n; seen = more })
-        extends-all h r more m i q = record {
-          verdict = ap (λ (y : Bool). extends false 0 y 0) (sym h ∙ d) ∙ counted bit ∙ by-count clash bit;
-          stands = λ z. record {
-            run = i .run ∙ ap (extension k v) (decode-above n statedAt 0 statedAt s x w (omega arith));
-            few = i .few;
-            count = ap (λ (m : ℕ). m * m) (sym (decode-length n (drop statedAt s)));
-            most = few;
-            seen = q ∙ ap (bitOr (2 ^ v)) u ∙ sym (or-assoc (2 ^ v) (vars (decode n (drop statedAt s))) (number seen));
-          };
-          goal = drop-more factorAt goalAt x r (omega arith) (i .within .after) ∙ drop-more statedAt goalAt s x (omega arith) (w .after);
-          same = i .within .same ∙ w .same;
+        goal-too : drop goalAt y ≡ drop goalAt s
+        goal-too = drop-more statedAt goalAt x y (omega arith) (w .after) ∙ goal-kept
+
+        pub extends-no-bit : b ≡ false → {c : Candidate} → c ≡ record { verdict = NOTBIT; terms = 0; products = 0; seen = replicate setWords 0 } → Extending y c
+        unfolding first
+        extends-no-bit l = refused NOTBIT (λ z. omega (arith, z)) (by-tests (clashes ∙ h) counted (bit ∙ l)) goal-too (w .same ∙ d .at .within .same)
+
+        pub extends-all : b ≡ true → (r more : List ℕ) (m : ℕ) → RunAt statedAt (extension k v (decode (f .terms) (drop statedAt y))) y r m → number more ≡ bitOr (2 ^ v) (number all)
+            → Extending r (record { verdict = 0; terms = m; products = f .terms * f .terms; seen = more })
+        unfolding first
+        extends-all l r more m i o = record {
+          verdict = by-tests (clashes ∙ h) counted (bit ∙ l);
+          run = λ _. i .run ∙ ap (extension k v) (decode-above (f .terms) statedAt 0 statedAt x y w (omega arith) ∙ d .at .run);
+          few = λ _. i .few;
+          count = λ _. ap (λ (m : ℕ). m * m) (sym long);
+          most = λ _. few;
+          seen = λ _. o ∙ ap (bitOr (2 ^ v)) shown-too ∙ sym (or-assoc (2 ^ v) (shows k p) (number seen));
+          goal = drop-more factorAt goalAt y r (omega arith) (i .within .after) ∙ goal-too;
+          same = i .within .same ∙ w .same ∙ d .at .within .same;
         }
 
 -- ---- lin
--- of the n terms p of the stated region of x, which sum-pairs left
-module _ {k : ℕ} {store : Store} {p : Poly} {qs : List Pair} {n : ℕ} (seen : List ℕ) {s x : List ℕ} {u : Sum} (few : n ≤ fieldTerms) (a : Summed k store qs (number seen) s x u)
-    (stated : decode n (drop statedAt s) ≡ p) where
-  abbrev pub Adding : List ℕ → Checked → Type 0
-  Adding r c = Sums k store p qs (number seen) r c
+module _ {k : ℕ} {store : Store} {qs : List Pair} (seen : List ℕ) (p : Written) {s : List ℕ} {u : Sum} (a : Summed k store qs s u) where
+  abbrev Adding : List ℕ → Candidate → Type 0
+  Adding r c =
+      CandidateIs (linRows k store p qs) (reduced k p) (productsOf k (find store) qs) (bitOr (bitOr (shows k p) (showsAll k (factorsOf qs))) (number seen)) s r c
 
-  abbrev present : Bool
-  present = allStored store qs
+  abbrev mismatch : Rows
+  mismatch = (MISMATCH, not (equal (reduced k p) (reduce k (combination k (find store) qs)))) ∷ []
 
-  abbrev over : Bool
-  over = ltb lineProducts (productsOf k (find store) qs)
+  by-sum : first (linRows k store p qs) ≡ orElse (u .verdict) (first mismatch)
+  by-sum = first-append (pairRows k store qs) mismatch (omega arith, (omega arith, tt)) ∙ ap (λ (v : ℕ). orElse v (first mismatch)) (sym (a .verdict))
 
-  abbrev sum : Bool
-  sum = equal p (reduce k (combination k (find store) qs))
+  pub sum-refused : (u .verdict ≡ 0 → ⊥) → {c : Candidate} → c ≡ record { verdict = u .verdict; terms = 0; products = 0; seen = replicate setWords 0 } → Adding s c
+  sum-refused l = refused (u .verdict) l (sym (by-sum ∙ else-stop (u .verdict) (first mismatch) l)) refl refl
 
-  halted : (r : List ℕ) (why : ℕ) → (why ≡ 0 → ⊥) → why ≡ sums present (productsOf k (find store) qs) sum 0 → {c : Checked} → c ≡ record { verdict = why; terms = 0; products = 0; seen = seen } → Adding r c
-  halted r why l e q = subst (Adding r) (sym q) (record { verdict = e; stands = λ z. absurd (l z) })
+  module _ (o : u .verdict ≡ 0) (kk : k ≤ greatestRing) {x y : List ℕ} {f : Reduced} (d : ReducedAt k p statedAt s x f) {b : Bool} (w : Within 0 statedAt x y)
+      (e : b ≡ equal (decode (f .terms) (drop statedAt x)) (reduce k (decode (u .terms) x))) where
+    same-sum : equal (reduced k p) (reduce k (combination k (find store) qs)) ≡ b
+    same-sum = sym (e ∙ ap₂ equal (d .at .run) (ap (reduce k) (decode-below (u .terms) statedAt factorAt s x (d .at .within) (omega (arith, a .most o)) ∙ a .run o)
+        ∙ reduce-rounded k kk (combination k (find store) qs)))
 
-  pub sums-refused : (u .verdict ≡ 0 → ⊥) → {c : Checked} → c ≡ record { verdict = u .verdict; terms = 0; products = 0; seen = seen } → Adding x c
-  sums-refused l = halted x (u .verdict) l (sym (two-stop (not present) over MISSING PRODUCTS (cond (not sum) MISMATCH 0) (a .verdict) l))
+    by-match : (t : Bool) → b ≡ t → first ((MISMATCH, not t) ∷ []) ≡ first (linRows k store p qs)
+    by-match t h = sym (by-sum ∙ ap (λ (v : ℕ). orElse v (first mismatch)) o ∙ ap (λ (t : Bool). first ((MISMATCH, not t) ∷ [])) (same-sum ∙ h))
 
-  module _ (o : u .verdict ≡ 0) (kk : k ≤ greatestRing) {r : List ℕ} {b : Bool} (w : Within 0 statedAt x r) (d : b ≡ equal (decode n (drop statedAt x)) (reduce k (decode (u .terms) x))) where
-    counted-sum : (y : Bool) → cond (not y) MISMATCH 0 ≡ sums present (productsOf k (find store) qs) y 0
-    counted-sum y = sym (two-later (not present) over MISSING PRODUCTS (omega arith) (omega arith) (a .verdict) o (cond (not y) MISMATCH 0))
+    goal-same : drop goalAt y ≡ drop goalAt s
+    goal-same = drop-more statedAt goalAt x y (omega arith) (w .after) ∙ drop-more factorAt goalAt s x (omega arith) (d .at .within .after)
 
-    same-sum : b ≡ sum
-    same-sum = d ∙ ap₂ equal (kept-stated s x (a .kept) n (omega arith) ∙ stated) (ap (reduce k) (a .run o) ∙ reduce-rounded k kk (combination k (find store) qs))
+    pub sum-differs : b ≡ false → {c : Candidate} → c ≡ record { verdict = MISMATCH; terms = 0; products = 0; seen = replicate setWords 0 } → Adding y c
+    unfolding first
+    sum-differs z = refused MISMATCH (λ z. omega (arith, z)) (by-match false z) goal-same (w .same ∙ d .at .within .same)
 
-    kept : decode n (drop statedAt r) ≡ p
-    kept = decode-above n statedAt 0 statedAt x r w (omega arith) ∙ kept-stated s x (a .kept) n (omega arith) ∙ stated
-
-    pub sums-differ : b ≡ false → {c : Checked} → c ≡ record { verdict = MISMATCH; terms = 0; products = 0; seen = seen } → Adding r c
-    sums-differ z = halted r MISMATCH (λ e. omega (arith, e)) (ap (λ (y : Bool). cond (not y) MISMATCH 0) (sym z ∙ same-sum) ∙ counted-sum sum)
-
-    pub sums-all : b ≡ true → {more : List ℕ} → number more ≡ bitOr (vars (decode n (drop statedAt r))) (number (u .seen)) → Adding r (record { verdict = 0; terms = n; products = u .terms; seen = more })
-    sums-all z q = record {
-      verdict = ap (λ (y : Bool). cond (not y) MISMATCH 0) (sym z ∙ same-sum) ∙ counted-sum sum;
-      stands = λ _. record {
-        run = kept;
-        few = few;
-        count = a .count o;
-        most = a .most o;
-        seen = q ∙ ap₂ (λ (y : Poly) (m : ℕ). bitOr (vars y) m) kept (a .seen o);
-      };
+    pub sum-matches : b ≡ true → (all more : List ℕ) → number all ≡ bitOr (number (f .shown)) (number (u .seen)) → number more ≡ bitOr (number all) (number seen)
+        → Adding y (record { verdict = 0; terms = f .terms; products = u .terms; seen = more })
+    unfolding first
+    sum-matches z all more g h = record {
+      verdict = by-match true z;
+      run = λ _. decode-above (f .terms) statedAt 0 statedAt x y w (omega arith) ∙ d .at .run;
+      few = λ _. d .at .few;
+      count = λ _. a .count o;
+      most = λ _. a .most o;
+      seen = λ _. h ∙ ap (λ (m : ℕ). bitOr m (number seen)) (g ∙ ap₂ bitOr (d .shown) (a .seen o));
+      goal = goal-same;
+      same = w .same ∙ d .at .within .same;
     }
-
--- the stated polynomial read, and the pairs behind it
-pub adds : {line : Bytes} {at k : ℕ} {store : Store} {earlier : ℕ} {s s₁ r : List ℕ} {f : FieldRun} {c : Checked} (d : ReducedAt line at k statedAt s s₁ f)
-    → ((qs : List Pair) → PairsAt line (f .end) qs → Sums k store (reduced k (d .value)) qs earlier r c) → drop goalAt r ≡ drop goalAt s₁ → length r ≡ length s₁
-    → AddsUp line at k store earlier s r c
-adds {s = s} {s₁} d a g l = record {
-  value = d .value;
-  end = _;
-  taken = d .taken;
-  sums = a;
-  goal = g ∙ drop-more factorAt goalAt s s₁ (omega arith) (d .within .after);
-  same = l ∙ d .within .same;
-}
-
-pub adds-behind : {line : Bytes} {at k : ℕ} {store : Store} {earlier : ℕ} {s s₁ x r : List ℕ} {f : FieldRun} {c : Checked} (d : ReducedAt line at k statedAt s s₁ f)
-    → ((qs : List Pair) → PairsAt line (f .end) qs → Sums k store (reduced k (d .value)) qs earlier r c) → Within 0 statedAt x r → drop goalAt x ≡ drop goalAt s₁ → length x ≡ length s₁
-    → AddsUp line at k store earlier s r c
-adds-behind {x = x} {r} d a w g l = adds d a (drop-more statedAt goalAt x r (omega arith) (w .after) ∙ g) (w .same ∙ l)

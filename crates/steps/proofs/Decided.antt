@@ -10,18 +10,16 @@ use Rattle.words.proofs.Laws.{Words}
 use Rattle.words.proofs.Decided.{one-set}
 use Rattle.terms.proofs.Decode.{decode-length}
 use Rattle.paper.specs.Rules as paper
-use Rattle.paper.specs.Rules.{bits, storedTerms}
-use Rattle.paper.specs.Grammar.{Bytes}
-use Rattle.paper.specs.Statement.{Statement}
-use Rattle.reader.specs.declared.line.Kind.{Kind}
+use Rattle.paper.specs.Rules.{storedTerms}
+use Rattle.paper.specs.Statement.{bits, Statement}
 use Rattle.table.specs.Table.{storeOf, Packed}
 use Rattle.table.proofs.Laws.{store-length, store-terms}
 use Rattle.table.proofs.Decided.{one-table}
-use Rattle.regions.specs.Regions.{goalAt}
+use Rattle.scratch.specs.Scratch.{goalAt}
 use Rattle.steps.specs.declared.state.State.{State}
 use Rattle.steps.specs.declared.state.Step.{Step}
-use Rattle.steps.specs.State.{stateOf, Fresh}
-use Rattle.steps.specs.Steps.{Says, Stepped, Does}
+use Rattle.steps.specs.State.{stateOf, AtStart}
+use Rattle.steps.specs.Stepped.{Stepped}
 
 -- a set in words, as its type has it
 abbrev pub IsSet : List ℕ → Type 0
@@ -65,7 +63,7 @@ pub record SameStep (r q : Step) (pool pool′ scratch scratch′ : List ℕ) : 
   pub pool-length : length pool ≡ length pool′
   pub scratch-length : length scratch ≡ length scratch′
 
-steps-alike : (capacity : ℕ) (st : Statement) (s : State) (pool scratch : List ℕ) (r q : Step) (pool′ pool″ scratch′ scratch″ : List ℕ)
+pub steps-alike : (capacity : ℕ) (st : Statement) (s : State) (pool scratch : List ℕ) (r q : Step) (pool′ pool″ scratch′ scratch″ : List ℕ)
     → IsSet (r .state .seen) → IsSet (q .state .seen) → Stepped capacity st s pool scratch r pool′ scratch′ → Stepped capacity st s pool scratch q pool″ scratch″
     → SameStep r q pool′ pool″ scratch′ scratch″
 steps-alike capacity st s pool scratch r q pool′ pool″ scratch′ scratch″ u w x y =
@@ -84,14 +82,8 @@ steps-alike capacity st s pool scratch r q pool′ pool″ scratch′ scratch″
     meaning : r .verdict ≡ 0 → stateOf (r .state) pool′ scratch′ ≡ stateOf (q .state) pool″ scratch″
     meaning e = x .next e ∙ sym (y .next (sym v ∙ e))
 
-pub does-alike : (capacity : ℕ) (line : Bytes) (k : Kind) (s : State) (pool scratch : List ℕ) (r q : Step) (pool′ pool″ scratch′ scratch″ : List ℕ)
-    → IsSet (r .state .seen) → IsSet (q .state .seen) → Says line k → Does capacity line s pool scratch r pool′ scratch′ → Does capacity line s pool scratch q pool″ scratch″
-    → SameStep r q pool′ pool″ scratch′ scratch″
-does-alike capacity line k s pool scratch r q pool′ pool″ scratch′ scratch″ u w says x y =
-    steps-alike capacity (says .value) s pool scratch r q pool′ pool″ scratch′ scratch″ u w (x (says .value) (says .reads)) (y (says .value) (says .reads))
-
 -- ---- `State::new`
-pub one-state : (s t : State) → IsSet (s .seen) → IsSet (t .seen) → Fresh s → Fresh t → s ≡ t
+pub one-state : (s t : State) → IsSet (s .seen) → IsSet (t .seen) → AtStart s → AtStart t → s ≡ t
 one-state s t u w x y = λ i. record {
   phase = same .phase i;
   ring = same .ring i;

@@ -1,10 +1,10 @@
-pub mod Said
-pub mod Rows
+pub mod Rules
 pub mod After
+pub mod Stating
 pub mod Stepping
-pub mod Keeping
+pub mod Aiming
 pub mod Admitting
-pub mod Inputs
 pub mod Checking
-pub mod Deriving
+pub mod Storing
 pub mod Decided
+pub mod Calling

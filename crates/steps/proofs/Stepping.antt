@@ -1,8 +1,8 @@
 -- What makes a step: a refusal, a ring, and a deletion. Assumes nothing.
 use mathlib.Core.Path.{_≡_, refl, sym, ap, subst, _∙_}
-use mathlib.Core.Bool.{Bool, true, false, not, cond}
-use mathlib.Core.List.{List, []}
-use Prim.Native.Nat.{ℕ, _<_}
+use mathlib.Core.Bool.{Bool, true, false, not}
+use mathlib.Core.List.{List, [], _∷_}
+use Prim.Native.Nat.{ℕ}
 use native.Mathlib.Omega.{arith}
 use lib.Dec.{eqb}
 use lib.ListN.{length, replicate}
@@ -11,28 +11,25 @@ use Rattle.limits.specs.Limits.{setWords}
 use Rattle.limits.specs.Verdicts.{ORDER, MISSING}
 use Rattle.words.specs.Words.{number}
 use Rattle.terms.specs.Terms.{decode}
-use Rattle.paper.specs.Rules.{first, Store, modulo, opening, inputs, steps, stored, Distinct, remove, start, rules}
-use Rattle.paper.specs.Grammar.{Bytes}
-use Rattle.paper.specs.Statement.{Statement, ring, del}
-use Rattle.paper.specs.Rules as paper
+use Rattle.paper.specs.Statement.{modulo, Statement, ring, del, isRing, isIndex}
+use Rattle.paper.specs.Rules.{first, Store, opening, inputs, steps, stored, Distinct, remove, start, rules}
+use Rattle.paper.proofs.Ranges.{ring-some, ring-most}
 use Rattle.paper.proofs.Store.{distinct-remove}
-use Rattle.fields.proofs.Taking.{same-value}
 use Rattle.table.specs.declared.Table.{Table}
 use Rattle.table.specs.Table.{storeOf}
 use Rattle.table.specs.Steps as table
-use Rattle.table.specs.Steps.{FirstAt}
-use Rattle.table.proofs.Laws.{found-stored, fresh-fitting}
+use Rattle.table.specs.Steps.{Absent, FirstAt}
+use Rattle.table.proofs.Laws.{store-length, absent-stored, found-stored, fresh-fitting}
 use Rattle.table.proofs.Forgetting.{Forgotten, forgotten-fitting}
 use Rattle.steps.specs.declared.state.State.{State}
 use Rattle.steps.specs.declared.state.Step.{Step}
-use Rattle.steps.specs.State.{stateOf, Fresh}
-use Rattle.steps.specs.Steps.{Room, Stepped, Does}
-use Rattle.steps.proofs.Said.{Said, ring-range}
-use Rattle.steps.proofs.Rows.{first-ring, first-del}
+use Rattle.steps.specs.State.{stateOf, AtStart}
+use Rattle.steps.specs.Stepped.{Room, Stepped}
+use Rattle.steps.proofs.Rules.{first-ring, first-del}
 use Rattle.steps.proofs.After.{after-ring, after-del}
 
 -- ---- before the first line
-pub fresh : (t : Table) → table.Fresh t → Fresh (record {
+pub at-start : (t : Table) → table.Fresh t → AtStart (record {
   phase = 0;
   ring = 0;
   table = t;
@@ -43,7 +40,7 @@ pub fresh : (t : Table) → table.Fresh t → Fresh (record {
   lines = 0;
 })
 unfolding start number decode
-fresh t f = record {
+at-start t f = record {
   state = λ pool scratch. ap (λ (u : Store). record { phase = 0; ring = modulo 0; store = u; seen = 0; goal = []; reached = false; products = 0 }) (f .store pool);
   lines = refl;
   ready = λ capacity pool scratch w m l. record {
@@ -51,6 +48,7 @@ fresh t f = record {
     room = l;
     aim = omega arith;
     ringed = λ h. absurd (let z : ⊥ = omega arith in z);
+    opened = λ h. absurd (let z : ⊥ = omega (arith, h, ap length (f .store []), store-length t []) in z);
     distinct = subst Distinct (sym (f .store pool)) tt;
     few = omega arith;
   };
@@ -58,33 +56,35 @@ fresh t f = record {
 }
 
 -- ---- a step
--- a line says one statement
-pub does : {line : Bytes} {capacity : ℕ} {st : Statement} {s : State} {pool scratch : List ℕ} {r : Step} {pool′ scratch′ : List ℕ}
-    → Said line st → Stepped capacity st s pool scratch r pool′ scratch′ → Does capacity line s pool scratch r pool′ scratch′
-does {capacity = capacity} {s = s} {pool} {scratch} {r} {pool′} {scratch′} h p st e =
-    subst (λ (x : Statement). Stepped capacity x s pool scratch r pool′ scratch′) (same-value (h .reads) e) p
-
-pub stepped-refused : {capacity : ℕ} {st : Statement} {s : State} {pool scratch : List ℕ} {r : Step} {scratch′ : List ℕ} (v : ℕ) → 0 < v
+pub stepped-refused : {capacity : ℕ} {st : Statement} {s : State} {pool scratch : List ℕ} {r : Step} {scratch′ : List ℕ} (v : ℕ) → (v ≡ 0 → ⊥)
     → first (rules capacity (stateOf s pool scratch) st) ≡ v → (r .verdict ≡ v) × (r .state ≡ s) → length scratch′ ≡ length scratch
     → Stepped capacity st s pool scratch r pool scratch′
-stepped-refused {r = r} v l e h n =
-    let q : r .verdict ≡ v = h .0 in
-    record {
-      verdict = e ∙ sym (h .0);
-      next = λ z. absurd (let y : ⊥ = omega arith in y);
-      ready = λ z. absurd (let y : ⊥ = omega arith in y);
-      lines = ap (λ (x : State). x .lines) (h .1);
-      back = λ z. h .1;
-      untouched = λ z. refl;
-      pool-length = refl;
-      scratch-length = n;
-    }
+stepped-refused {r = r} v l e h n = record {
+  verdict = e ∙ sym (h .0);
+  next = λ z. absurd (l (sym (h .0) ∙ z));
+  ready = λ z. absurd (l (sym (h .0) ∙ z));
+  lines = ap (λ (x : State). x .lines) (h .1);
+  back = λ z. h .1;
+  untouched = λ z. refl;
+  pool-length = refl;
+  scratch-length = n;
+}
 
 -- a step that hands back this verdict and this state
 pub told : {capacity v : ℕ} {st : Statement} {s t : State} {pool scratch pool′ scratch′ : List ℕ} {r : Step} → (r .verdict ≡ v) × (r .state ≡ t)
     → Stepped capacity st s pool scratch (record { verdict = v; state = t }) pool′ scratch′ → Stepped capacity st s pool scratch r pool′ scratch′
 told {capacity} {st = st} {s} {pool = pool} {scratch} {pool′} {scratch′} q d =
     subst (λ (x : Step). Stepped capacity st s pool scratch x pool′ scratch′) (λ i. record { verdict = sym (q .0) i; state = sym (q .1) i }) d
+
+-- ---- in its phase
+-- what the row of ORDER says, and those behind it
+pub order-refuses : (place phase : ℕ) (rs : List (ℕ × Bool)) → (phase ≡ place → ⊥) → first ((ORDER, not (eqb place phase)) ∷ rs) ≡ ORDER
+unfolding first
+order-refuses place phase rs n = ap (λ (b : Bool). first ((ORDER, not b) ∷ rs)) (ne-eqb place phase (λ e. n (sym e)))
+
+pub order-passes : (place phase : ℕ) (rs : List (ℕ × Bool)) → phase ≡ place → first ((ORDER, not (eqb place phase)) ∷ rs) ≡ first rs
+unfolding first
+order-passes place phase rs z = ap (λ (b : Bool). first ((ORDER, not b) ∷ rs)) (eq-eqb place phase (sym z))
 
 -- ---- ring
 abbrev ringed : State → ℕ → State
@@ -99,24 +99,23 @@ ringed s k = record {
   lines = s .lines;
 }
 
-module _ {line : Bytes} {capacity : ℕ} {s : State} {pool scratch : List ℕ} {k : ℕ} (h : Said line (ring k)) where
-  pub ring-refused : {r : Step} → (s .phase ≡ opening → ⊥) → (r .verdict ≡ ORDER) × (r .state ≡ s) → Does capacity line s pool scratch r pool scratch
-  ring-refused n q =
-      let e : eqb opening (s .phase) ≡ false = ne-eqb opening (s .phase) (λ x. n (sym x)) in
-      does h (stepped-refused ORDER (omega arith) (first-ring capacity (stateOf s pool scratch) k (h .ranged) (h .short) ∙ ap (λ (b : Bool). cond (not b) ORDER 0) e) q refl)
+module _ {capacity : ℕ} {s : State} {pool scratch : List ℕ} {k : ℕ} (h : isRing (modulo k) ≡ true) where
+  pub ring-misplaced : {r : Step} → (s .phase ≡ opening → ⊥) → (r .verdict ≡ ORDER) × (r .state ≡ s) → Stepped capacity (ring (modulo k)) s pool scratch r pool scratch
+  ring-misplaced n q = stepped-refused ORDER (λ z. omega (arith, z)) (first-ring capacity (stateOf s pool scratch) (modulo k) h ∙ order-refuses opening (s .phase) [] n) q refl
 
-  pub ring-stands : {r : Step} → Room capacity s pool scratch → s .phase ≡ opening → (r .verdict ≡ 0) × (r .state ≡ ringed s k) → Does capacity line s pool scratch r pool scratch
+  pub ring-stands : {r : Step} → Room capacity s pool scratch → s .phase ≡ opening → (r .verdict ≡ 0) × (r .state ≡ ringed s k) → Stepped capacity (ring (modulo k)) s pool scratch r pool scratch
+  unfolding first
   ring-stands room z q =
-      let e : eqb opening (s .phase) ≡ true = eq-eqb opening (s .phase) (sym z) in
       let o = room .ready in
-      does h (told q (record {
-        verdict = first-ring capacity (stateOf s pool scratch) k (h .ranged) (h .short) ∙ ap (λ (b : Bool). cond (not b) ORDER 0) e;
-        next = λ _. sym (after-ring (stateOf s pool scratch) k);
+      told q (record {
+        verdict = first-ring capacity (stateOf s pool scratch) (modulo k) h ∙ order-passes opening (s .phase) [] z;
+        next = λ _. sym (after-ring (stateOf s pool scratch) (modulo k));
         ready = λ _. record {
           fitting = o .fitting;
           room = o .room;
           aim = o .aim;
-          ringed = λ _. ring-range k (h .ranged);
+          ringed = λ _. (ring-some k h, ring-most k h);
+          opened = λ _. omega arith;
           distinct = o .distinct;
           few = omega (arith, o .few);
         };
@@ -125,7 +124,7 @@ module _ {line : Bytes} {capacity : ℕ} {s : State} {pool scratch : List ℕ} {
         untouched = λ _. refl;
         pool-length = refl;
         scratch-length = refl;
-      }))
+      })
 
 -- ---- del
 abbrev shrunk : State → Table → State
@@ -140,33 +139,34 @@ shrunk s t = record {
   lines = s .lines;
 }
 
--- ORDER and MISSING
-abbrev verdictOf : Bool → Bool → ℕ
-verdictOf a b = cond (not a) ORDER (cond (not b) MISSING 0)
+-- in its phase, by whether the index is stored
+del-verdict : (capacity : ℕ) (s : State) (pool scratch : List ℕ) (x : ℕ) → isIndex x ≡ true → s .phase ≡ steps → (b : Bool) → stored (storeOf (s .table) pool) x ≡ b
+    → first (rules capacity (stateOf s pool scratch) (del x)) ≡ first ((MISSING, not b) ∷ [])
+del-verdict capacity s pool scratch x h z b e =
+    first-del capacity (stateOf s pool scratch) x h ∙ order-passes steps (s .phase) ((MISSING, not (stored (storeOf (s .table) pool) x)) ∷ []) z
+    ∙ ap (λ (b : Bool). first ((MISSING, not b) ∷ [])) e
 
-module _ {line : Bytes} {capacity : ℕ} {s : State} {pool scratch : List ℕ} {x : ℕ} (h : Said line (del x)) where
-  pub del-misplaced : {r : Step} → (s .phase ≡ steps → ⊥) → (r .verdict ≡ ORDER) × (r .state ≡ s) → Does capacity line s pool scratch r pool scratch
+module _ {capacity : ℕ} {s : State} {pool scratch : List ℕ} {x : ℕ} (h : isIndex x ≡ true) where
+  pub del-misplaced : {r : Step} → (s .phase ≡ steps → ⊥) → (r .verdict ≡ ORDER) × (r .state ≡ s) → Stepped capacity (del x) s pool scratch r pool scratch
   del-misplaced n q =
-      let e : eqb steps (s .phase) ≡ false = ne-eqb steps (s .phase) (λ y. n (sym y)) in
-      does h (stepped-refused ORDER (omega arith) (first-del capacity (stateOf s pool scratch) x (h .ranged) (h .short) ∙ ap (λ (b : Bool). verdictOf b (stored (storeOf (s .table) pool) x)) e) q refl)
+      stepped-refused ORDER (λ z. omega (arith, z))
+      (first-del capacity (stateOf s pool scratch) x h ∙ order-refuses steps (s .phase) ((MISSING, not (stored (storeOf (s .table) pool) x)) ∷ []) n) q refl
 
-  pub del-missing : {r : Step} → s .phase ≡ steps → stored (storeOf (s .table) pool) x ≡ false → (r .verdict ≡ MISSING) × (r .state ≡ s)
-      → Does capacity line s pool scratch r pool scratch
+  pub del-missing : {r : Step} → s .phase ≡ steps → Absent (s .table .indices) (s .table .stored) x → (r .verdict ≡ MISSING) × (r .state ≡ s)
+      → Stepped capacity (del x) s pool scratch r pool scratch
+  unfolding first
   del-missing z f q =
-      let e : eqb steps (s .phase) ≡ true = eq-eqb steps (s .phase) (sym z) in
-      does h (stepped-refused MISSING (omega arith)
-      (first-del capacity (stateOf s pool scratch) x (h .ranged) (h .short) ∙ ap (λ (b : Bool). verdictOf b (stored (storeOf (s .table) pool) x)) e ∙ ap (λ (b : Bool). verdictOf true b) f) q refl)
+      stepped-refused MISSING (λ z. omega (arith, z)) (del-verdict capacity s pool scratch x h z false (absent-stored (s .table .indices) (s .table .starts) (s .table .counts) pool (s .table .stored) x f)) q refl
 
   pub del-stands : (t : Table) (left : List ℕ) (j : ℕ) → Room capacity s pool scratch → s .phase ≡ steps → FirstAt (s .table .indices) (s .table .stored) x j
       → Forgotten (s .table) pool j t left → length left ≡ length pool → {r : Step} → (r .verdict ≡ 0) × (r .state ≡ shrunk s t)
-      → Does capacity line s pool scratch r left scratch
+      → Stepped capacity (del x) s pool scratch r left scratch
+  unfolding first
   del-stands t left j room z a f l w =
-      let e : eqb steps (s .phase) ≡ true = eq-eqb steps (s .phase) (sym z) in
-      let d : stored (storeOf (s .table) pool) x ≡ true = found-stored (s .table .indices) (s .table .starts) (s .table .counts) pool (s .table .stored) x j a in
       let o = room .ready in
       let q : storeOf t left ≡ remove (storeOf (s .table) pool) x = f .store x a in
-      does h (told w (record {
-        verdict = first-del capacity (stateOf s pool scratch) x (h .ranged) (h .short) ∙ ap (λ (b : Bool). verdictOf b (stored (storeOf (s .table) pool) x)) e ∙ ap (λ (b : Bool). verdictOf true b) d;
+      told w (record {
+        verdict = del-verdict capacity s pool scratch x h z true (found-stored (s .table .indices) (s .table .starts) (s .table .counts) pool (s .table .stored) x j a);
         next = λ _. ap (λ (u : Store). record {
           phase = s .phase;
           ring = modulo (s .ring);
@@ -181,6 +181,7 @@ module _ {line : Bytes} {capacity : ℕ} {s : State} {pool scratch : List ℕ} {
           room = o .room;
           aim = o .aim;
           ringed = o .ringed;
+          opened = λ _. omega (arith, z);
           distinct = subst Distinct (sym q) (distinct-remove (storeOf (s .table) pool) x (o .distinct));
           few = omega (arith, o .few);
         };
@@ -189,4 +190,4 @@ module _ {line : Bytes} {capacity : ℕ} {s : State} {pool scratch : List ℕ} {
         untouched = λ n. absurd (n refl);
         pool-length = l;
         scratch-length = refl;
-      }))
+      })

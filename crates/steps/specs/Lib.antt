@@ -1,4 +1,3 @@
 pub mod State
-pub mod Steps
+pub mod Stepped
 pub mod Parts
-pub mod Checks

@@ -7,10 +7,11 @@ use Rattle.limits.specs.Limits.{fieldTerms, lineProducts, greatestRing, mostPoo
 use Rattle.words.specs.Words.{number}
 use Rattle.terms.specs.Terms.{decode}
 use Rattle.paper.specs.Rules as paper
-use Rattle.paper.specs.Rules.{modulo, Distinct, start}
+use Rattle.paper.specs.Rules.{Distinct, start}
+use Rattle.paper.specs.Statement.{modulo}
 use Rattle.table.specs.Table.{storeOf, Fitting}
 use Rattle.table.specs.Steps as table
-use Rattle.regions.specs.Regions.{goalAt}
+use Rattle.scratch.specs.Scratch.{goalAt}
 use Rattle.steps.specs.declared.state.State.{State}
 
 abbrev pub stateOf : State → List ℕ → List ℕ → paper.State
@@ -30,11 +31,12 @@ pub record Ready (capacity lines : ℕ) (s : State) (pool scratch : List ℕ) : 
   pub room : leastScratch ≤ length scratch
   pub aim : s .«goal_terms» ≤ fieldTerms
   pub ringed : 0 < s .phase → (1 ≤ s .ring) × (s .ring ≤ greatestRing)
+  pub opened : 0 < s .table .stored → 0 < s .phase
   pub distinct : Distinct (storeOf (s .table) pool)
   pub few : s .products ≤ lineProducts * lines
 
 -- before the first line
-pub record Fresh (s : State) : Type 0 where
+pub record AtStart (s : State) : Type 0 where
   pub state : (pool scratch : List ℕ) → stateOf s pool scratch ≡ start
   pub lines : s .lines ≡ 0
   pub ready : (capacity : ℕ) (pool scratch : List ℕ) → capacity * termWords ≤ length pool → capacity ≤ mostPoolTerms → leastScratch ≤ length scratch

@@ -2,32 +2,28 @@
 ghost use mathlib.Core.Path.{_≡_};
 ghost use mathlib.Core.Bool.{_||_};
 ghost use mathlib.Core.List.{List};
-ghost use Prim.Native.Nat.{ℕ, _+_, _*_, _≤_, _<_};
+ghost use Prim.Native.Nat.{ℕ, _*_, _^_, _≤_, _<_};
 ghost use lib.Bits.{bitOr};
-ghost use lib.ListN.{length, drop};
-ghost use Rattle.limits.specs.Limits.{storedPolynomials, fieldTerms, termWords, variables, leastScratch, mostPoolTerms};
-ghost use Rattle.algebra.specs.Polynomial.{vars, equal};
+ghost use lib.ListN.{length, drop, replicate};
+ghost use Rattle.limits.specs.Limits.{storedPolynomials, fieldTerms, termWords, setWords, variables, leastScratch, mostPoolTerms};
+ghost use Rattle.algebra.specs.Polynomial.{equal, extension};
 ghost use Rattle.words.specs.Words.{number};
 ghost use Rattle.terms.specs.Terms.{decode};
-ghost use Rattle.paper.specs.Grammar.{polynomial};
-ghost use Rattle.paper.specs.Statement.{Written, Pair};
-ghost use Rattle.paper.specs.Rules.{stored};
-ghost use Rattle.reader.specs.Places.{Got};
-ghost use Rattle.fields.specs.Fields.{Good, isField};
+ghost use Rattle.paper.specs.Statement.{Written, Pair, reduced};
+ghost use Rattle.paper.specs.Rules.{first, Store, stored, find, shows, showsAll};
+ghost use Rattle.written.specs.Worded.{Holds};
 ghost use Rattle.table.specs.Table.{storeOfColumns};
-ghost use Rattle.regions.specs.Regions.{statedAt, goalAt};
-ghost use Rattle.pairs.specs.Pairs.{PairsAt, PoolHolds};
-ghost use Rattle.steps.specs.Parts.{admits, Keeps};
-ghost use Rattle.steps.specs.Checks.{Extends, AddsUp};
-use table::Column;
+ghost use Rattle.scratch.specs.Scratch.{statedAt, goalAt};
+ghost use Rattle.sums.specs.Sums.{factorsOf, productsOf, Summed};
+ghost use Rattle.steps.specs.Parts.{admitRows, linRows, extRows, CandidateIs, PoolTakes};
+use sums::Sum;
 use table::Found;
 use table::Indices;
-use table::find;
 use words::Set;
 
 // How a lin or an ext line is refused; or how many terms it has to store, those of the stated region, how many products it
 // made, and the variables seen then.
-pub struct Checked {
+pub struct Candidate {
     pub verdict: u64,
     pub terms: usize,
     pub products: usize,
@@ -35,39 +31,30 @@ pub struct Checked {
 }
 
 // A line that is refused.
-fn refusal(verdict: u64, seen: Set) -> Checked
-    ensures { λ r. ⌜ r ≡ record { verdict = verdict; terms = 0; products = 0; seen = seen } ⌝ }
+fn refusal(verdict: u64) -> Candidate
+    ensures { λ r. ⌜ r ≡ record { verdict = verdict; terms = 0; products = 0; seen = replicate setWords 0 } ⌝ }
 {
-    Checked {
+    Candidate {
         verdict,
         terms: 0,
         products: 0,
-        seen,
+        seen: [0; limits::SET_WORDS],
     }
 }
 
 // How a line is refused that stands in the wrong phase or under an index that is stored.
 pub(crate) fn admit(phase: u8, place: u8, indices: &Indices, n: usize, index: u32) -> u64
     requires { ⌜ n ≤ storedPolynomials ⌝ }
-    ensures { λ r. ⌜ ((starts counts pool : List ℕ) → r ≡ admits place phase (stored (storeOfColumns (now (indices .entry)) starts counts pool n) index) 0) ⌝ }
+    ensures { λ r. ⌜ ((starts counts pool : List ℕ) → r ≡ first (admitRows place phase (stored (storeOfColumns (now (indices .entry)) starts counts pool n) index))) ⌝ }
 {
     if phase != place {
         return limits::ORDER;
     }
-    let found = find(indices, n, index);
+    let found = table::find(indices, n, index);
     match found {
         Found::At(_) => limits::TAKEN,
         Found::Nothing => limits::ACCEPTED,
     }
-}
-
-// The variables of the n terms from word base on, and those that have been seen.
-pub(crate) fn seen_with(scratch: &[u64], base: usize, n: usize, seen: Set) -> Set
-    requires { ⌜ base + n * termWords ≤ length (now scratch) ⌝ }
-    ensures { λ r. ⌜ number r ≡ bitOr (vars (decode n (drop base (now (scratch .entry))))) (number seen) ⌝ }
-{
-    let variables = terms::variables(&scratch[base..], n);
-    words::union(variables, seen)
 }
 
 // Whether the goal is reached, now or by the n terms of the stated region.
@@ -78,76 +65,75 @@ pub(crate) fn reaches(reached: bool, scratch: &[u64], n: usize, goal_terms: usiz
     if reached {
         return true;
     }
-    regions::is_goal(scratch, n, goal_terms)
+    scratch::is_goal(scratch, n, goal_terms)
 }
 
-// Makes -v + p of p, the n terms of the stated region, where v is not seen and p is a bit.
-pub(crate) fn extend(scratch: &mut [u64], n: usize, v: usize, k: u32, seen: Set) -> Checked
+// Makes -v + p of p, the n terms of the stated region as written, where v is not seen and p is a bit.
+pub(crate) fn extend(scratch: &mut [u64], n: usize, v: usize, k: u32, seen: Set) -> Candidate
     requires { ⌜
-        (n ≤ fieldTerms) × (v < variables) × (leastScratch ≤ length (now scratch)) × (1 ≤ k)
-        × (k ≤ 64)
+        ((p : Written) × Holds p n statedAt (now scratch)) × (v < variables) × (leastScratch ≤ length (now scratch))
+        × (1 ≤ k) × (k ≤ 64)
         ⌝ }
-    ensures { λ r. ⌜ Extends k v (decode n (drop statedAt (now (scratch .entry)))) (number seen) (now (scratch .entry)) (now (scratch .exit)) r ⌝ }
+    ensures { λ r. ⌜
+        ((p : Written) → Holds p n statedAt (now (scratch .entry))
+        → CandidateIs (extRows k (number seen) v p) (extension k v (reduced k p)) (length (reduced k p) * length (reduced k p)) (bitOr (bitOr (2 ^ v) (shows k p)) (number seen)) (now (scratch .entry)) (now (scratch .exit)) r)
+        ⌝ }
 {
-    let all = seen_with(scratch, regions::STATED, n, seen);
+    let p = scratch::reduce_field(scratch, scratch::STATED, n, k);
+    let shown = p.shown;
+    let all = words::union(shown, seen);
     if words::has(all, v) {
-        return refusal(limits::SEEN, seen);
+        return refusal(limits::SEEN);
     }
-    if limits::LINE_PRODUCTS < n * n {
-        return refusal(limits::PRODUCTS, seen);
+    let m = p.terms;
+    let products = m * m;
+    if limits::LINE_PRODUCTS < products {
+        return refusal(limits::PRODUCTS);
     }
-    if !regions::is_bit(scratch, n, k) {
-        return refusal(limits::NOTBIT, seen);
+    if !scratch::is_bit(scratch, m, k) {
+        return refusal(limits::NOTBIT);
     }
-    Checked {
+    Candidate {
         verdict: limits::ACCEPTED,
-        terms: regions::define(scratch, n, v, k),
-        products: n * n,
+        terms: scratch::define(scratch, m, v, k),
+        products,
         seen: words::with(all, v),
     }
 }
 
-// Reads the stated polynomial at at, and looks whether the pairs behind it name stored polynomials and add up to it.
-pub(crate) fn add_up<'a>(
-    indices: &'a Indices,
-    starts: &'a Column,
-    counts: &'a Column,
-    n: usize,
-    line: &[u8],
-    at: usize,
-    pool: &[u64],
-    scratch: &mut [u64],
-    k: u32,
-    seen: Set,
-) -> Checked
+// Looks whether a sum is refused, or is the stated polynomial, the n terms of the stated region as written.
+pub(crate) fn check_sum(scratch: &mut [u64], n: usize, k: u32, sum: Sum, seen: Set) -> Candidate
     requires { ⌜
-        Good polynomial isField (now line) at
-        × ((w : Written) (e : ℕ) → Got polynomial (now line) at w e → (qs : List Pair) × PairsAt (now line) e qs)
-        × PoolHolds (now starts) (now counts) n (now pool) × (leastScratch ≤ length (now scratch)) × (1 ≤ k) × (k ≤ 64)
+        ((p : Written) × Holds p n statedAt (now scratch))
+        × ((store : Store) × (qs : List Pair) × Summed k store qs (now scratch) sum) × (leastScratch ≤ length (now scratch))
+        × (1 ≤ k) × (k ≤ 64)
         ⌝ }
-    ensures { λ r. ⌜ AddsUp (now (line .entry)) at k (storeOfColumns (now (indices .entry)) (now (starts .entry)) (now (counts .entry)) (now (pool .entry)) n) (number seen) (now (scratch .entry)) (now (scratch .exit)) r ⌝ }
+    ensures { λ r. ⌜
+        ((p : Written) → Holds p n statedAt (now (scratch .entry)) → (store : Store) (qs : List Pair) → Summed k store qs (now (scratch .entry)) sum
+        → CandidateIs (linRows k store p qs) (reduced k p) (productsOf k (find store) qs) (bitOr (bitOr (shows k p) (showsAll k (factorsOf qs))) (number seen)) (now (scratch .entry)) (now (scratch .exit)) r)
+        ⌝ }
 {
-    let f = regions::read_reduced(line, at, scratch, regions::STATED, k);
-    let e = f.end;
-    let sum = pairs::sum_pairs(indices, starts, counts, n, line, e, pool, scratch, k, seen);
     if sum.verdict != limits::ACCEPTED {
-        return refusal(sum.verdict, seen);
+        return refusal(sum.verdict);
     }
-    if !reduction::is_reduced(scratch, regions::STATED, f.terms, sum.terms, k) {
-        return refusal(limits::MISMATCH, seen);
+    let p = scratch::reduce_field(scratch, scratch::STATED, n, k);
+    if !reduction::is_reduced(scratch, scratch::STATED, p.terms, sum.terms, k) {
+        return refusal(limits::MISMATCH);
     }
+    let shown = p.shown;
     let factors = sum.seen;
-    Checked {
+    let all = words::union(shown, factors);
+    Candidate {
         verdict: limits::ACCEPTED,
-        terms: f.terms,
+        terms: p.terms,
         products: sum.terms,
-        seen: seen_with(scratch, regions::STATED, f.terms, factors),
+        seen: words::union(all, seen),
     }
 }
 
 // The verdict v; where it is ACCEPTED and there is no room for a polynomial of n terms more, FULL; and where there is, the n terms
 // of the stated region stand behind the used ones of the pool.
-pub(crate) fn keep(
+pub(crate) fn append_to_pool(
     v: u64,
     stored: usize,
     used: usize,
@@ -160,7 +146,7 @@ pub(crate) fn keep(
         (v ≡ 0 → n ≤ fieldTerms) × (used ≤ capacity) × (capacity * termWords ≤ length (now pool)) × (capacity ≤ mostPoolTerms)
         × (leastScratch ≤ length (now scratch))
         ⌝ }
-    ensures { λ r. ⌜ Keeps v stored used n capacity (now (pool .entry)) (now (scratch .entry)) r (now (pool .exit)) ⌝ }
+    ensures { λ r. ⌜ PoolTakes v stored used n capacity (now (pool .entry)) (now (scratch .entry)) r (now (pool .exit)) ⌝ }
 {
     if v != limits::ACCEPTED {
         return v;
@@ -172,6 +158,6 @@ pub(crate) fn keep(
         return limits::FULL;
     }
     let end = used * limits::TERM_WORDS;
-    terms::move_run(&scratch[regions::STATED..], n, pool, end);
+    terms::move_run(&scratch[scratch::STATED..], n, pool, end);
     limits::ACCEPTED
 }

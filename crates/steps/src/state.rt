@@ -1,6 +1,6 @@
 // The state between two lines.
 ghost use mathlib.Core.Path.{_≡_};
-ghost use Rattle.steps.specs.State.{Fresh};
+ghost use Rattle.steps.specs.State.{AtStart};
 use table::Table;
 use words::Set;
 
@@ -33,7 +33,7 @@ pub struct Step {
 impl State {
     // Before the first line.
     pub fn new() -> State
-        ensures { λ r. ⌜ Fresh r ⌝ }
+        ensures { λ r. ⌜ AtStart r ⌝ }
     {
         State {
             phase: OPENING,
@@ -48,7 +48,7 @@ impl State {
     }
 
     // Hands the state back with its verdict.
-    pub fn judged(self, verdict: u64) -> Step
+    pub fn with_verdict(self, verdict: u64) -> Step
         ensures { λ r. ⌜ (r .verdict ≡ verdict) × (r .state ≡ self) ⌝ }
     {
         Step {

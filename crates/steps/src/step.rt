@@ -1,60 +1,68 @@
-// The six steps.
+// The six steps: numbers, and polynomials as written, in the regions of the scratch.
+ghost use mathlib.Core.Path.{_≡_};
+ghost use mathlib.Core.Bool.{true};
 ghost use mathlib.Core.List.{List};
 ghost use Prim.Native.Nat.{ℕ};
-ghost use Rattle.reader.specs.declared.line.Kind.the-variants.{Ring, Input, Goal, Lin, Del, Ext};
-ghost use Rattle.steps.specs.Steps.{Says, Room, Does};
-use super::check::add_up;
+ghost use Rattle.paper.specs.Statement.{Written, Pair, modulo, ring, input, goal, lin, del, ext, isRing, isIndex, isVariable};
+ghost use Rattle.written.specs.Worded.{Holds};
+ghost use Rattle.table.specs.Table.{storeOf};
+ghost use Rattle.scratch.specs.Scratch.{statedAt};
+ghost use Rattle.sums.specs.Sums.{Summed};
+ghost use Rattle.steps.specs.Stepped.{Room, Stepped};
 use super::check::admit;
+use super::check::append_to_pool;
+use super::check::check_sum;
 use super::check::extend;
-use super::check::keep;
 use super::check::reaches;
-use super::check::seen_with;
 use super::state::INPUTS;
 use super::state::OPENING;
 use super::state::STEPS;
 use super::state::State;
 use super::state::Step;
-use fields::small_at;
+use sums::Sum;
 use table::Found;
-use table::close;
+use table::close_counts;
 use table::close_gap;
 use table::close_indices;
+use table::close_starts;
 use table::find;
-use table::put;
+use table::put_count;
 use table::put_index;
+use table::put_start;
 
 impl State {
     // ring k
-    pub fn step_ring(mut self, line: &[u8]) -> Step
-        requires { ⌜ Says (now line) Ring ⌝ }
-        ensures { λ r. ⌜ ((capacity : ℕ) (pool scratch : List ℕ) → Room capacity self pool scratch → Does capacity (now (line .entry)) self pool scratch r pool scratch) ⌝ }
+    pub fn step_ring(mut self, k: u32) -> Step
+        requires { ⌜ isRing (modulo k) ≡ true ⌝ }
+        ensures { λ r. ⌜ ((capacity : ℕ) (pool scratch : List ℕ) → Room capacity self pool scratch → Stepped capacity (ring (modulo k)) self pool scratch r pool scratch) ⌝ }
     {
         if self.phase != OPENING {
-            return self.judged(limits::ORDER);
+            return self.with_verdict(limits::ORDER);
         }
-        let k = small_at(line, 5);
-        self.ring = k.value;
+        self.ring = k;
         self.phase = INPUTS;
-        self.judged(limits::ACCEPTED)
+        self.with_verdict(limits::ACCEPTED)
     }
 
     // del index
-    pub fn step_del(mut self, line: &[u8], pool: &mut [u64]) -> Step
-        requires { ⌜ Says (now line) Del × ((capacity : ℕ) × (scratch : List ℕ) × Room capacity self (now pool) scratch) ⌝ }
-        ensures { λ r. ⌜ ((capacity : ℕ) (scratch : List ℕ) → Room capacity self (now (pool .entry)) scratch → Does capacity (now (line .entry)) self (now (pool .entry)) scratch r (now (pool .exit)) scratch) ⌝ }
+    pub fn step_del(mut self, index: u32, pool: &mut [u64]) -> Step
+        requires { ⌜ (isIndex index ≡ true) × ((capacity : ℕ) × (scratch : List ℕ) × Room capacity self (now pool) scratch) ⌝ }
+        ensures { λ r. ⌜
+            ((capacity : ℕ) (scratch : List ℕ) → Room capacity self (now (pool .entry)) scratch
+            → Stepped capacity (del index) self (now (pool .entry)) scratch r (now (pool .exit)) scratch)
+            ⌝ }
     {
         if self.phase != STEPS {
-            return self.judged(limits::ORDER);
+            return self.with_verdict(limits::ORDER);
         }
-        let index = small_at(line, 4);
-        let found = find(&self.table.indices, self.table.stored, index.value);
+        let found = find(&self.table.indices, self.table.stored, index);
         let Found::At(j) = found else {
-            return self.judged(limits::MISSING);
+            return self.with_verdict(limits::MISSING);
         };
         let n = self.table.stored;
         let used = self.table.used;
-        let count = close(&mut self.table.counts, j, n, 0);
-        let start = close(&mut self.table.starts, j, n, count);
+        let count = close_counts(&mut self.table.counts, j, n);
+        let start = close_starts(&mut self.table.starts, j, n, count as u16);
         close_indices(&mut self.table.indices, j, n);
         let len = count as usize;
         close_gap(
@@ -65,142 +73,158 @@ impl State {
         );
         self.table.stored = n - 1;
         self.table.used = used - len;
-        self.judged(limits::ACCEPTED)
+        self.with_verdict(limits::ACCEPTED)
     }
 
-    // in index polynomial
+    // in index polynomial: the n terms of the stated region
     pub fn step_input(
         self,
-        line: &[u8],
+        index: u32,
+        n: usize,
         pool: &mut [u64],
         scratch: &mut [u64],
-        limit: usize,
+        capacity: usize,
     ) -> Step
-        requires { ⌜ Says (now line) Input × Room limit self (now pool) (now scratch) ⌝ }
-        ensures { λ r. ⌜ Does limit (now (line .entry)) self (now (pool .entry)) (now (scratch .entry)) r (now (pool .exit)) (now (scratch .exit)) ⌝ }
+        requires { ⌜ Room capacity self (now pool) (now scratch) × (isIndex index ≡ true) × ((p : Written) × Holds p n statedAt (now scratch)) ⌝ }
+        ensures { λ r. ⌜
+            ((p : Written) → Holds p n statedAt (now (scratch .entry))
+            → Stepped capacity (input index p) self (now (pool .entry)) (now (scratch .entry)) r (now (pool .exit)) (now (scratch .exit)))
+            ⌝ }
     {
         let mut state = self;
-        let index = small_at(line, 3);
         let at = state.table.stored;
-        let v = admit(state.phase, INPUTS, &state.table.indices, at, index.value);
+        let v = admit(state.phase, INPUTS, &state.table.indices, at, index);
         if v != limits::ACCEPTED {
-            return state.judged(v);
+            return state.with_verdict(v);
         }
-        let f = regions::read_reduced(line, index.end + 1, scratch, regions::STATED, state.ring);
+        let f = scratch::reduce_field(scratch, scratch::STATED, n, state.ring);
+        let shown = f.shown;
+        let seen = words::union(shown, state.seen);
         let used = state.table.used;
-        let v = keep(limits::ACCEPTED, at, used, f.terms, pool, scratch, limit);
+        let v = append_to_pool(limits::ACCEPTED, at, used, f.terms, pool, scratch, capacity);
         if v != limits::ACCEPTED {
-            return state.judged(v);
+            return state.with_verdict(v);
         }
-        put_index(&mut state.table.indices, at, index.value);
-        put(&mut state.table.starts, at, used as u16);
-        put(&mut state.table.counts, at, f.terms as u16);
+        put_index(&mut state.table.indices, at, index);
+        put_start(&mut state.table.starts, at, used as u16);
+        put_count(&mut state.table.counts, at, f.terms as u8);
         state.table.stored = at + 1;
         state.table.used = used + f.terms;
-        let seen = seen_with(scratch, regions::STATED, f.terms, state.seen);
         state.seen = seen;
         state.reached = false;
-        state.judged(limits::ACCEPTED)
+        state.with_verdict(limits::ACCEPTED)
     }
 
-    // goal polynomial
-    pub fn step_goal(mut self, line: &[u8], pool: &[u64], scratch: &mut [u64]) -> Step
-        requires { ⌜ Says (now line) Goal × ((capacity : ℕ) × Room capacity self (now pool) (now scratch)) ⌝ }
+    // goal polynomial: the n terms of the stated region
+    pub fn step_goal(mut self, n: usize, pool: &[u64], scratch: &mut [u64]) -> Step
+        requires { ⌜
+            ((capacity : ℕ) × Room capacity self (now pool) (now scratch))
+            × ((p : Written) × Holds p n statedAt (now scratch))
+            ⌝ }
         ensures { λ r. ⌜
-            ((capacity : ℕ) → Room capacity self (now (pool .entry)) (now (scratch .entry))
-            → Does capacity (now (line .entry)) self (now (pool .entry)) (now (scratch .entry)) r (now (pool .entry)) (now (scratch .exit)))
+            ((capacity : ℕ) → Room capacity self (now (pool .entry)) (now (scratch .entry)) → (p : Written) → Holds p n statedAt (now (scratch .entry))
+            → Stepped capacity (goal p) self (now (pool .entry)) (now (scratch .entry)) r (now (pool .entry)) (now (scratch .exit)))
             ⌝ }
     {
         if self.phase != INPUTS {
-            return self.judged(limits::ORDER);
+            return self.with_verdict(limits::ORDER);
         }
-        let f = regions::read_reduced(line, 5, scratch, regions::GOAL, self.ring);
-        let n = f.terms;
-        self.reached = regions::is_stored(
+        let f = scratch::reduce_field(scratch, scratch::STATED, n, self.ring);
+        let m = f.terms;
+        scratch::copy_to_goal(scratch, m);
+        self.reached = scratch::is_stored(
             &self.table.starts,
             &self.table.counts,
             self.table.stored,
             pool,
-            &scratch[regions::GOAL..],
-            n,
+            &scratch[scratch::GOAL..],
+            m,
         );
-        let seen = seen_with(scratch, regions::GOAL, n, self.seen);
+        let shown = f.shown;
+        let seen = words::union(shown, self.seen);
         self.seen = seen;
-        self.goal_terms = n;
+        self.goal_terms = m;
         self.phase = STEPS;
-        self.judged(limits::ACCEPTED)
+        self.with_verdict(limits::ACCEPTED)
     }
 
-    // lin index polynomial pairs
-    pub fn step_lin(self, line: &[u8], pool: &mut [u64], scratch: &mut [u64], limit: usize) -> Step
-        requires { ⌜ Says (now line) Lin × Room limit self (now pool) (now scratch) ⌝ }
-        ensures { λ r. ⌜ Does limit (now (line .entry)) self (now (pool .entry)) (now (scratch .entry)) r (now (pool .exit)) (now (scratch .exit)) ⌝ }
+    // lin index polynomial pairs: the n terms of the stated region, and the sum of the pairs
+    pub fn step_lin(
+        self,
+        index: u32,
+        n: usize,
+        sum: Sum,
+        pool: &mut [u64],
+        scratch: &mut [u64],
+        capacity: usize,
+    ) -> Step
+        requires { ⌜ Room capacity self (now pool) (now scratch) × (isIndex index ≡ true) × ((p : Written) × Holds p n statedAt (now scratch)) × ((qs : List Pair) × Summed (self .ring) (storeOf (self .table) (now pool)) qs (now scratch) sum) ⌝ }
+        ensures { λ r. ⌜
+            ((p : Written) → Holds p n statedAt (now (scratch .entry)) → (qs : List Pair) → Summed (self .ring) (storeOf (self .table) (now (pool .entry))) qs (now (scratch .entry)) sum
+            → Stepped capacity (lin index p qs) self (now (pool .entry)) (now (scratch .entry)) r (now (pool .exit)) (now (scratch .exit)))
+            ⌝ }
     {
         let mut state = self;
-        let index = small_at(line, 4);
         let at = state.table.stored;
-        let v = admit(state.phase, STEPS, &state.table.indices, at, index.value);
+        let v = admit(state.phase, STEPS, &state.table.indices, at, index);
         if v != limits::ACCEPTED {
-            return state.judged(v);
+            return state.with_verdict(v);
         }
-        let sum = add_up(
-            &state.table.indices,
-            &state.table.starts,
-            &state.table.counts,
-            at,
-            line,
-            index.end + 1,
-            pool,
-            scratch,
-            state.ring,
-            state.seen,
-        );
+        let made = check_sum(scratch, n, state.ring, sum, state.seen);
         let used = state.table.used;
-        let v = keep(sum.verdict, at, used, sum.terms, pool, scratch, limit);
+        let v = append_to_pool(made.verdict, at, used, made.terms, pool, scratch, capacity);
         if v != limits::ACCEPTED {
-            return state.judged(v);
+            return state.with_verdict(v);
         }
-        put_index(&mut state.table.indices, at, index.value);
-        put(&mut state.table.starts, at, used as u16);
-        put(&mut state.table.counts, at, sum.terms as u16);
-        state.table.stored = at + 1;
-        state.table.used = used + sum.terms;
-        let seen = sum.seen;
-        state.seen = seen;
-        state.reached = reaches(state.reached, scratch, sum.terms, state.goal_terms);
-        state.products += sum.products as u64;
-        state.judged(limits::ACCEPTED)
-    }
-
-    // ext index variable polynomial
-    pub fn step_ext(self, line: &[u8], pool: &mut [u64], scratch: &mut [u64], limit: usize) -> Step
-        requires { ⌜ Says (now line) Ext × Room limit self (now pool) (now scratch) ⌝ }
-        ensures { λ r. ⌜ Does limit (now (line .entry)) self (now (pool .entry)) (now (scratch .entry)) r (now (pool .exit)) (now (scratch .exit)) ⌝ }
-    {
-        let mut state = self;
-        let index = small_at(line, 4);
-        let at = state.table.stored;
-        let v = admit(state.phase, STEPS, &state.table.indices, at, index.value);
-        if v != limits::ACCEPTED {
-            return state.judged(v);
-        }
-        let x = small_at(line, index.end + 1);
-        let f = regions::read_reduced(line, x.end + 1, scratch, regions::STATED, state.ring);
-        let made = extend(scratch, f.terms, x.value as usize, state.ring, state.seen);
-        let used = state.table.used;
-        let v = keep(made.verdict, at, used, made.terms, pool, scratch, limit);
-        if v != limits::ACCEPTED {
-            return state.judged(v);
-        }
-        put_index(&mut state.table.indices, at, index.value);
-        put(&mut state.table.starts, at, used as u16);
-        put(&mut state.table.counts, at, made.terms as u16);
+        put_index(&mut state.table.indices, at, index);
+        put_start(&mut state.table.starts, at, used as u16);
+        put_count(&mut state.table.counts, at, made.terms as u8);
         state.table.stored = at + 1;
         state.table.used = used + made.terms;
         let seen = made.seen;
         state.seen = seen;
         state.reached = reaches(state.reached, scratch, made.terms, state.goal_terms);
         state.products += made.products as u64;
-        state.judged(limits::ACCEPTED)
+        state.with_verdict(limits::ACCEPTED)
+    }
+
+    // ext index variable polynomial: the n terms of the stated region
+    pub fn step_ext(
+        self,
+        index: u32,
+        v: u32,
+        n: usize,
+        pool: &mut [u64],
+        scratch: &mut [u64],
+        capacity: usize,
+    ) -> Step
+        requires { ⌜ Room capacity self (now pool) (now scratch) × (isIndex index ≡ true) × (isVariable v ≡ true) × ((p : Written) × Holds p n statedAt (now scratch)) ⌝ }
+        ensures { λ r. ⌜
+            ((p : Written) → Holds p n statedAt (now (scratch .entry))
+            → Stepped capacity (ext index v p) self (now (pool .entry)) (now (scratch .entry)) r (now (pool .exit)) (now (scratch .exit)))
+            ⌝ }
+    {
+        let mut state = self;
+        let at = state.table.stored;
+        let a = admit(state.phase, STEPS, &state.table.indices, at, index);
+        if a != limits::ACCEPTED {
+            return state.with_verdict(a);
+        }
+        let made = extend(scratch, n, v as usize, state.ring, state.seen);
+        let used = state.table.used;
+        let a = append_to_pool(made.verdict, at, used, made.terms, pool, scratch, capacity);
+        if a != limits::ACCEPTED {
+            return state.with_verdict(a);
+        }
+        put_index(&mut state.table.indices, at, index);
+        put_start(&mut state.table.starts, at, used as u16);
+        put_count(&mut state.table.counts, at, made.terms as u8);
+        state.table.stored = at + 1;
+        state.table.used = used + made.terms;
+        let seen = made.seen;
+        state.seen = seen;
+        state.reached = reaches(state.reached, scratch, made.terms, state.goal_terms);
+        state.products += made.products as u64;
+        state.with_verdict(limits::ACCEPTED)
     }
 }

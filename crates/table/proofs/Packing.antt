@@ -7,7 +7,7 @@ use native.Mathlib.Numerals.{add-one}
 use native.Mathlib.Nat.{eq-or-lt-of-le, le-of-suc-le-suc, not-suc-le-zero}
 use native.Mathlib.Omega.{arith}
 use lib.ListN.{getD}
-use Rattle.limits.specs.Limits.{storedPolynomials, fieldTerms}
+use Rattle.limits.specs.Limits.{fieldTerms}
 use Rattle.table.specs.Table.{termsBefore, PackedColumns}
 use Rattle.table.specs.Steps.{Closable}
 
@@ -45,9 +45,6 @@ used-short ss cs n used p = omega (arith, p .ends, before-short cs n (p .short))
 later-starts : (ss cs : List ℕ) (n used j k : ℕ) → PackedColumns ss cs n used → j < k → k < n → getD cs j 0 ≤ getD ss k 0
 later-starts ss cs n used j k p l m = omega (arith, p .begins k m, ends-before cs j k l)
 
--- ---- a column may be closed: with nothing to lower, and one of starts over a polynomial of count terms
-pub closable-none : (column : List ℕ) (j n : ℕ) → j < n → n ≤ storedPolynomials → Closable column j n 0
-closable-none column j n h f = record { inside = h; few = f; least = λ k l m. omega arith }
-
+-- the starts may be closed over a polynomial of count terms
 pub closable-starts : (ss cs : List ℕ) (n used j count : ℕ) → PackedColumns ss cs n used → j < n → count ≡ getD cs j 0 → Closable ss j n count
 closable-starts ss cs n used j count p h e = record { inside = h; few = p .few; least = λ k l m. omega (arith, later-starts ss cs n used j k p l m) }

@@ -9,14 +9,17 @@ ghost use Rattle.table.specs.Steps.{Absent, Finds, Closable, Closed, Fre
 
 pub type Indices = [u32; limits::STORED_POLYNOMIALS];
 
-// Of starts or of counts: all stored polynomials together have fewer than 2 ^ 16 terms.
-pub type Column = [u16; limits::STORED_POLYNOMIALS];
+// All stored polynomials together have fewer than 2 ^ 16 terms.
+pub type Starts = [u16; limits::STORED_POLYNOMIALS];
+
+// No stored polynomial is longer than a field.
+pub type Counts = [u8; limits::STORED_POLYNOMIALS];
 
 pub struct Table {
     // Of each stored polynomial, the oldest first: its index, the term of the pool where it starts, how many terms it has.
     pub indices: Indices,
-    pub starts: Column,
-    pub counts: Column,
+    pub starts: Starts,
+    pub counts: Counts,
     // How many polynomials are stored, and how many terms of the pool they use.
     pub stored: usize,
     pub used: usize,
@@ -87,8 +90,16 @@ pub fn find(column: &Indices, n: usize, x: u32) -> Found
     Found::Nothing
 }
 
-// Puts x into a column.
-pub fn put(column: &mut Column, at: usize, x: u16)
+// Puts x among the starts.
+pub fn put_start(column: &mut Starts, at: usize, x: u16)
+    requires { ⌜ at < storedPolynomials ⌝ }
+    ensures { λ _. ⌜ now (column .exit) ≡ set (now (column .entry)) at x ⌝ }
+{
+    column[at] = x;
+}
+
+// Puts x among the counts.
+pub fn put_count(column: &mut Counts, at: usize, x: u8)
     requires { ⌜ at < storedPolynomials ⌝ }
     ensures { λ _. ⌜ now (column .exit) ≡ set (now (column .entry)) at x ⌝ }
 {
@@ -103,9 +114,9 @@ pub fn put_index(column: &mut Indices, at: usize, x: u32)
     column[at] = x;
 }
 
-// Takes the j-th of the first n numbers out of a column and gives it: those behind it move one place down, each lowered by fall.
+// Takes the j-th of the first n starts out and gives it: those behind it move one place down, each lowered by fall.
 // The length is asked for because a proof does not see it through a reference.
-pub fn close(column: &mut Column, j: usize, n: usize, fall: u16) -> u16
+pub fn close_starts(column: &mut Starts, j: usize, n: usize, fall: u16) -> u16
     requires { ⌜ (length (now column) ≡ storedPolynomials) × Closable (now column) j n fall ⌝ }
     ensures { λ r. ⌜ (r ≡ getD (now (column .entry)) j 0) × Closed (now (column .entry)) j n fall (now (column .exit)) ⌝ }
 {
@@ -113,6 +124,20 @@ pub fn close(column: &mut Column, j: usize, n: usize, fall: u16) -> u16
     let mut k = j;
     while k + 1 < n {
         column[k] = column[k + 1] - fall;
+        k += 1;
+    }
+    gone
+}
+
+// Takes the j-th of the first n counts out and gives it: those behind it move one place down.
+pub fn close_counts(column: &mut Counts, j: usize, n: usize) -> u8
+    requires { ⌜ (length (now column) ≡ storedPolynomials) × (j < n) × (n ≤ storedPolynomials) ⌝ }
+    ensures { λ r. ⌜ (r ≡ getD (now (column .entry)) j 0) × Closed (now (column .entry)) j n 0 (now (column .exit)) ⌝ }
+{
+    let gone = column[j];
+    let mut k = j;
+    while k + 1 < n {
+        column[k] = column[k + 1];
         k += 1;
     }
     gone

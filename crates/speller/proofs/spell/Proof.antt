@@ -8,27 +8,30 @@ use Rattle.speller.proofs.Giving.{spells-short, spells-long, spells-rea
 use Rattle.speller.proofs.spell.Statement.{statement}
 use Rattle.speller.proofs.spell.Tie as tie
 
-returns : tie.Need-returns
-returns c =
-    let a = c .before .before .before .before .before .args in
-    spells-short (a .field .now) (a .k) (a .scratch .now) (a .out .now) (c .refused .result) (c .before .if1 .taken) (c .refused .ensures)
-
 returns-2 : tie.Need-returns-2
 returns-2 c =
-    let a = c .before .before .before .before .before .before .before .before .before .before .args in
-    let z = c .before .before .before .zero in
-    spells-long (a .field .now) (a .k) (a .scratch .now) (a .out .now) (c .refused2 .result) (z .last .0) (c .before .before .before .before .before .before .if1 .left) (z .ensures)
-    (c .before .before .before .before .before .if2 .taken) (c .refused2 .ensures)
+    let z = c .before .before .before in
+    spells-long (z .before .before .before .if1 .left) (z .zero .ensures) (z .before .before .if2 .taken) (c .refused2 .ensures)
 
 returns-3 : tie.Need-returns-3
 returns-3 c =
-    let a = c .before .before .before .before .before .before .before .before .before .before .before .before .before .before .before .before .args in
-    let w = c .before .before .before .before .before .before .before .before .spell-within in
-    let z = c .before .before .zero2 in
-    spells-read (a .field .now) (a .k) (a .scratch .now) (a .out .now) (w .result) (z .last .0) (c .before .before .before .before .before .before .before .before .before .before .before .before .if1 .left)
-    (z .ensures ∙ ap (λ (n : ℕ). replicate n 0) (w .kept .1 .1 .0)) (w .last .1 .1 .1 .0) (c .before .before .before .before .before .before .before .before .before .before .before .if2 .left) (w .ensures)
+    let z = c .before .before in
+    let w = z .before .before .before .before .before .before in
+    spells-read (w .before .before .before .before .if1 .left) (z .zero2 .ensures ∙ ap (λ (n : ℕ). replicate n 0) (w .spell-within .kept .1 .1 .0))
+    (w .before .before .before .if2 .left) (w .spell-within .ensures)
 
 pub spell-spec : {M : Type 1} → statement M
 spell-spec =
-    tie.close (tie.spec (λ c κs. search needs) returns (λ c κs. search needs) (λ c κs. search needs) (λ c. search needs) returns-2
-    (λ c κs. search needs) (λ c κs. search needs) (λ c. search needs) (λ c. search needs) returns-3)
+    tie.close
+    (tie.spec
+    (λ c κs. search needs)
+    (λ c. spells-short (c .before .if1 .taken) (c .refused .ensures))
+    (λ c κs. search needs)
+    (λ c κs. search needs)
+    (λ c. search needs)
+    returns-2
+    (λ c κs. search needs)
+    (λ c κs. search needs)
+    (λ c. search needs)
+    (λ c. search needs)
+    returns-3)

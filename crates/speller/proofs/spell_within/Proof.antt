@@ -5,53 +5,55 @@ use native.Mathlib.Omega.{arith}
 use lib.ListN.{length}
 use borrow.Author.Needs.{needs}
 use Rattle.paper.proofs.Ranges.{ring-some, ring-most}
-use Rattle.speller.proofs.Giving.{gives-as, gives-refused, gives-field, holds-cut}
+use Rattle.speller.specs.Spells.{Judged}
+use Rattle.speller.proofs.Giving.{gives-as, gives-refused, gives-field, holds-few}
 use Rattle.speller.proofs.spell_within.Statement.{statement}
 use Rattle.speller.proofs.spell_within.Tie as tie
 
+abbrev reading : tie.After-judge → tie.After-read-field
+reading c = c .before .before .before
+
+abbrev begin : tie.After-judge → tie.Start
+begin c = reading c .before .before .before .before .before
+
+judged : (c : tie.After-judge)
+    → let a = begin c .args in let f = reading c .read-field in Judged (a .field .now) (a .k) (f .last .1 .1 .0) (f .result .terms) (c .judge .result)
+judged c = c .judge .ensures _ _ (reading c .read-field .ensures)
+
 returns : tie.Need-returns
 returns c =
-    let a = c .before .before .before .before .before .before .args in
-    let j = c .before .before .judge in
-    gives-as (sym (j .ensures .refused (λ e. omega arith) (length (a .out .now)))) (gives-refused (j .result) (a .out .now) (c .refused .result) (c .refused .ensures))
+    let j = c .before .before in
+    gives-as (sym (judged j .refused (c .before .if1 .taken) (length (begin j .args .out .now)))) (gives-refused (c .refused .ensures))
 
-cast-reduce-field : tie.Need-cast-reduce-field
-cast-reduce-field c =
-    let k = c .before .before .before .before .before .args .k in
-    record { fits = omega (arith, ring-most k (c .before .judge .ensures .accepted (omega arith) .ring)) }
+cast-write-reduced : tie.Need-cast-write-reduced
+cast-write-reduced c =
+    let j = c .before .before in
+    record { fits = omega (arith, ring-most (begin j .args .k) (judged j .accepted (omega arith) .0 .ring)) }
 
-reduce-field-requires : tie.Need-reduce-field-requires
-reduce-field-requires c κs = (c .before .before .judge .ensures .accepted (omega arith), omega arith)
-
-cast-write-fitting : tie.Need-cast-write-fitting
-cast-write-fitting c =
-    let b = c .before .before .before .before .before .before .before .before .before .before in
-    let j = c .before .before .before .before .before .before .judge in
-    record { fits = omega (arith, ring-most (b .args .k) (j .ensures .accepted (omega arith) .ring)) }
-
-write-fitting-requires : tie.Need-write-fitting-requires
-write-fitting-requires c κs =
-    let b = c .before .before .before .before .before .before .before .before .before .before .before in
-    let j = c .before .before .before .before .before .before .before .judge in
-    let g = j .ensures .accepted (omega arith) in
-    let h = c .before .before .before .before .reduce-field in (
-      ring-some (b .args .k) (g .ring),
-      ring-most (b .args .k) (g .ring),
-      h .ensures .few,
-      omega (arith, h .ensures .few, h .kept .1 .1 .0, b .pre),
-      holds-cut (b .args .field .now) (b .args .k) (h .last .1 .1 .0) (h .result) (h .ensures),
-    )
+write-reduced-requires : tie.Need-write-reduced-requires
+write-reduced-requires c κs =
+    let j = c .before .before .before in
+    let b = begin j in
+    let g = judged j .accepted (omega arith) in
+    (ring-some (b .args .k) (g .0 .ring), ring-most (b .args .k) (g .0 .ring), holds-few (g .1), omega (arith, holds-few (g .1), reading j .read-field .kept .1 .1 .0, b .pre))
 
 returns-2 : tie.Need-returns-2
 returns-2 c =
-    let b = c .before .before .before .before .before .before .before .before .before .before .before .before .before .before in
-    let j = c .before .before .before .before .before .before .before .before .before .before .judge in
-    let g = j .ensures .accepted (omega arith) in
-    let h = c .before .before .before .before .before .before .before .reduce-field in
-    let w = c .before .before .write-fitting in
-    gives-field (b .args .field .now) (b .args .k) g (h .last .1 .1 .0) (h .result) (b .args .out .now) (w .last .1 .1 .1 .0) (w .result) (h .ensures) (w .ensures)
+    let w = c .before .before .before .before in
+    let g = judged (w .before .before .before .before) .accepted (omega arith) in
+    gives-field (g .0) (g .1) (w .write-reduced .ensures)
 
 pub spell-within-spec : {M : Type 1} → statement M
 spell-within-spec =
-    tie.close (tie.spec (λ c κs. search needs) (λ c κs. search needs) returns cast-reduce-field reduce-field-requires cast-write-fitting
-    write-fitting-requires (λ c. search needs) (λ c. search needs) returns-2)
+    tie.close
+    (tie.spec
+    (λ c κs. search needs)
+    (λ c κs. search needs)
+    (λ c κs. search needs)
+    (λ c. search needs)
+    returns
+    cast-write-reduced
+    write-reduced-requires
+    (λ c. search needs)
+    (λ c. search needs)
+    returns-2)

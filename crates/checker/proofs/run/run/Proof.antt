@@ -5,7 +5,7 @@ use Prim.Native.Nat.{_+_, _-_}
 use native.Mathlib.Omega.{arith}
 use lib.ListN.{length}
 use borrow.Author.Needs.{needs}
-use Rattle.judging.proofs.Indices.{refused-ranged}
+use Rattle.lines.proofs.Indexing.{refused-read}
 use Rattle.checker.proofs.Running.{Onward, onward-start, onward-end, onward-room, onward-more, onward-refused, onward-packed}
 use Rattle.checker.proofs.run.run.Statement.{statement}
 use Rattle.checker.proofs.run.run.Tie as tie
@@ -69,7 +69,7 @@ part-refused-index-end : tie.Need-part-refused-index-end Inv-loop μ-loop
 part-refused-index-end c = let h = c .before .before .before .before .before .before .before .before .before .before .line-end .ensures .inside in omega arith
 
 refused-index-requires : tie.Need-refused-index-requires Inv-loop μ-loop
-refused-index-requires c κs = refused-ranged (c .before .before .before .before .before .before .before .judge-line .ensures) (c .before .if1 .taken)
+refused-index-requires c κs = refused-read (c .before .before .before .before .before .before .before .judge-line .ensures) (c .before .if1 .taken)
 
 add-n : tie.Need-add-n Inv-loop μ-loop
 add-n c =

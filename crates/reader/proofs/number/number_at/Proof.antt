@@ -15,36 +15,36 @@ decimal-at-requires c κs = search needs
 enum-known-d : tie.Need-enum-known-d
 enum-known-d c = search needs
 
-refusal-requires : tie.Need-refusal-requires
-refusal-requires c κs = search needs
+outside-requires : tie.Need-outside-requires
+outside-requires c κs = search needs
 
 returns : tie.Need-returns
 returns c =
     let d = c .before .before .decimal-at in
     let a = c .before .before .before .before .args in
-    rw (c .refusal .ensures)
+    rw (c .outside .ensures)
     (number-refused (a .low) (a .high) (a .s .now) (a .at) (omega arith) (d .result) (d .ensures)
     (λ v e q. ⊎-elim (λ p. absurd (let z : ⊥ = omega arith in z)) (λ p. absurd (let z : ⊥ = omega arith in z)) (rw q at (c .before .match .keys2))))
 
-refusal-requires-2 : tie.Need-refusal-requires-2
-refusal-requires-2 c κs = search needs
+outside-requires-2 : tie.Need-outside-requires-2
+outside-requires-2 c κs = search needs
 
 returns-2 : tie.Need-returns-2
 returns-2 c =
     let g = c .before .before .before .d .given in
     let a = c .before .before .before .before .before .before .before .args in
     let got = decimal-got decimal (a .s .now) (a .at) (g .1) (c .before .before .before .before .before .decimal-at .ensures) in
-    rw (c .refusal2 .ensures) (inl (refl, record { value = g .0 .0; outside = within-below (a .low) (a .high) (g .0 .0) (c .before .if1 .taken); taken = got }))
+    rw (c .outside2 .ensures) (inl (refl, record { value = g .0 .0; outside = within-below (a .low) (a .high) (g .0 .0) (c .before .if1 .taken); taken = got }))
 
-refusal-requires-3 : tie.Need-refusal-requires-3
-refusal-requires-3 c κs = search needs
+outside-requires-3 : tie.Need-outside-requires-3
+outside-requires-3 c κs = search needs
 
 returns-3 : tie.Need-returns-3
 returns-3 c =
     let g = c .before .before .before .before .d .given in
     let a = c .before .before .before .before .before .before .before .before .args in
     let got = decimal-got decimal (a .s .now) (a .at) (g .1) (c .before .before .before .before .before .before .decimal-at .ensures) in
-    rw (c .refusal3 .ensures) (inl (refl, record { value = g .0 .0; outside = within-above (a .low) (a .high) (g .0 .0) (c .before .if2 .taken); taken = got }))
+    rw (c .outside3 .ensures) (inl (refl, record { value = g .0 .0; outside = within-above (a .low) (a .high) (g .0 .0) (c .before .if2 .taken); taken = got }))
 
 returns-4 : tie.Need-returns-4
 returns-4 c =
@@ -58,10 +58,10 @@ number-at-spec =
     (tie.spec
     decimal-at-requires
     enum-known-d
-    refusal-requires
+    outside-requires
     returns
-    refusal-requires-2
+    outside-requires-2
     returns-2
-    refusal-requires-3
+    outside-requires-3
     returns-3
     returns-4)

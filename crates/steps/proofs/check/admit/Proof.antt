@@ -12,15 +12,6 @@ returns c =
     let a = c .before .args in
     λ starts counts pool. admit-misplaced (a .place) (a .phase) (stored (storeOfColumns (a .indices .now) starts counts pool (a .n)) (a .index)) (c .if1 .taken)
 
-find-requires : tie.Need-find-requires
-find-requires c κs = search needs
-
-enum-told : tie.Need-enum-told
-enum-told c = search needs
-
-enum-told-2 : tie.Need-enum-told-2
-enum-told-2 c = search needs
-
 returns-2 : tie.Need-returns-2
 returns-2 c =
     let a = c .before .before .before .before .args in
@@ -32,4 +23,4 @@ returns-3 c =
     λ starts counts pool. admit-free (a .indices .now) starts counts pool (a .n) (a .index) (a .place) (a .phase) (c .before .before .before .if1 .left) (found-nothing (c .enum-told2 .given .1) (c .before .before .find .ensures))
 
 pub admit-spec : {M : Type 1} → statement M
-admit-spec = tie.close (tie.spec returns find-requires enum-told enum-told-2 returns-2 returns-3)
+admit-spec = tie.close (tie.spec returns (λ c κs. search needs) (λ c. search needs) (λ c. search needs) returns-2 returns-3)

@@ -4,16 +4,10 @@ use mathlib.Core.Bool.{Bool, _||_}
 use lib.ListN.{drop}
 use Rattle.algebra.specs.Polynomial.{equal}
 use Rattle.terms.specs.Terms.{decode}
-use Rattle.regions.specs.Regions.{statedAt, goalAt}
+use Rattle.scratch.specs.Scratch.{statedAt, goalAt}
 use borrow.Author.Needs.{needs}
 use Rattle.steps.proofs.check.reaches.Statement.{statement}
 use Rattle.steps.proofs.check.reaches.Tie as tie
-
-returns : tie.Need-returns
-returns c = search needs
-
-is-goal-requires : tie.Need-is-goal-requires
-is-goal-requires c κs = search needs
 
 returns-2 : tie.Need-returns-2
 returns-2 c =
@@ -23,4 +17,4 @@ returns-2 c =
     ∙ sym (ap (λ (b : Bool). b || equal (decode (a .n) (drop statedAt w)) (decode (a .«goal-terms») (drop goalAt w))) (c .before .if1 .left))
 
 pub reaches-spec : {M : Type 1} → statement M
-reaches-spec = tie.close (tie.spec returns is-goal-requires returns-2)
+reaches-spec = tie.close (tie.spec (λ c. search needs) (λ c κs. search needs) returns-2)

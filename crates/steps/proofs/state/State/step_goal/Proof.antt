@@ -1,76 +1,69 @@
--- `steps::state::State::step_goal` meets its contract: the reduced polynomial of the line is the goal, and is looked for in the store. Assumes nothing.
-use mathlib.Core.Path.{ap, _∙_}
-use Prim.Native.Nat.{_-_}
+-- `steps::state::State::step_goal` meets its contract: the reduced polynomial is the goal, and is looked for in the store. Assumes nothing.
 use native.Mathlib.Omega.{arith}
-use lib.ListN.{length}
-use Rattle.algebra.specs.Polynomial.{Poly}
-use Rattle.paper.specs.Rules.{holdsGoal}
-use Rattle.terms.proofs.Decode.{decode-part}
-use Rattle.table.specs.Table.{storeOf}
-use Rattle.regions.specs.Regions.{goalAt}
-use Rattle.steps.proofs.Said.{goal-field}
-use Rattle.steps.proofs.Inputs.{goal-misplaced, goal-stands}
+use Rattle.steps.proofs.Aiming.{goal-misplaced, goal-stands}
 use borrow.Author.Needs.{needs}
 use Rattle.steps.proofs.state.State.step_goal.Statement.{statement}
 use Rattle.steps.proofs.state.State.step_goal.Tie as tie
 
-judged-requires : tie.Need-judged-requires
-judged-requires c κs = search needs
+abbrev begin : tie.Else1 → tie.Start
+begin c = c .before .before .before
+
+abbrev stood : tie.After-reduce-field → tie.Else1
+stood c = c .before .before
+
+abbrev field : tie.After-copy-to-goal → tie.After-reduce-field
+field c = c .before .before .before .before
 
 returns : tie.Need-returns
-returns c = λ capacity room. goal-misplaced (c .before .before .before .before .before .pre .0) (c .before .if1 .taken) (c .judged .ensures)
+returns c = λ capacity room p h. goal-misplaced h (c .before .if1 .taken) (c .with-verdict .ensures)
 
-read-reduced-requires : tie.Need-read-reduced-requires
-read-reduced-requires c κs =
-    let b = c .before .before .before .before .before in
-    let k = b .pre .1 .1 .ready .ringed (omega arith) in
-    (goal-field (b .pre .0), omega arith, k .0, k .1)
+reduce-field-requires : tie.Need-reduce-field-requires
+reduce-field-requires c κs =
+    let b = begin (c .before) in
+    let o = b .pre .0 .1 .ready in
+    let k = o .ringed (omega arith) in
+    (b .pre .1, omega (arith, o .room), k .0, k .1)
 
-sub-is-stored : tie.Need-sub-is-stored
-sub-is-stored c = search needs
-
-part-is-stored-start : tie.Need-part-is-stored-start
-part-is-stored-start c = search needs
-
-part-is-stored-end : tie.Need-part-is-stored-end
-part-is-stored-end c = search needs
+copy-to-goal-requires : tie.Need-copy-to-goal-requires
+copy-to-goal-requires c κs =
+    let f = c .before .before .before in
+    let b = begin (stood f) in
+    let d = f .reduce-field .ensures (b .pre .1 .0) (b .pre .1 .1) .at in
+    (d .few, omega (arith, b .pre .0 .1 .ready .room, d .within .same))
 
 is-stored-requires : tie.Need-is-stored-requires
 is-stored-requires c κs =
-    let f = c .before .before .before .before .before .before .before .before .before .before .before .before .before .pre .1 .1 .ready .fitting in
-    ((c .before .before .before .before .before .before .before .before .before .before .before .before .before .args .t1 .table .used, f .packed, omega arith), omega arith)
-
-seen-with-requires : tie.Need-seen-with-requires
-seen-with-requires c κs = search needs
-
-judged-requires-2 : tie.Need-judged-requires-2
-judged-requires-2 c κs = search needs
-
-same-length : tie.Need-same-length
-same-length c = search needs
+    let g = c .before .before .before .before .before .before .before in
+    let f = field g in
+    let b = begin (stood f) in
+    let o = b .pre .0 .1 .ready in
+    let d = f .reduce-field .ensures (b .pre .1 .0) (b .pre .1 .1) .at in
+    let w = g .copy-to-goal .ensures .within .same in
+    ((b .args .t1 .table .used, o .fitting .packed, omega (arith, o .fitting .room, o .fitting .words)), omega (arith, d .few, d .within .same, o .room))
 
 returns-2 : tie.Need-returns-2
 returns-2 c =
-    let b = c .before .before .before .before .before .before .before .before .before .before .before .before .before .before .before .before .before .before in
-    let d = c .before .before .before .before .before .before .before .before .before .before .before .before .read-reduced in
-    let w = d .last .1 .1 .0 in
-    λ capacity room. goal-stands (b .pre .0) room (c .before .before .before .before .before .before .before .before .before .before .before .before .before .before .if1 .left) (d .ensures) (c .before .seen-with .ensures)
-    (c .before .before .before .before .is-stored .ensures (b .args .t1 .table .indices)
-    ∙ ap (λ (p : Poly). holdsGoal p (storeOf (b .args .t1 .table) (b .args .pool .now))) (decode-part (d .result .terms) goalAt (length w - goalAt) w (omega (arith, d .ensures .within .same))))
-    (c .judged2 .ensures)
+    let u = c .before in
+    let s = u .before .before .before in
+    let g = s .before .before .before .before .before .before .before .before in
+    let f = field g in
+    let b = begin (stood f) in
+    λ capacity room p h. goal-stands h room (stood f .if1 .left) (f .reduce-field .ensures p h) (g .copy-to-goal .ensures) (u .union .ensures)
+    (s .is-stored .ensures (b .args .t1 .table .indices)) (c .with-verdict2 .ensures)
 
 pub step-goal-spec : {M : Type 1} → statement M
 step-goal-spec =
     tie.close
     (tie.spec
-    judged-requires
+    (λ c κs. search needs)
     returns
-    read-reduced-requires
-    sub-is-stored
-    part-is-stored-start
-    part-is-stored-end
+    reduce-field-requires
+    copy-to-goal-requires
+    (λ c. search needs)
+    (λ c. search needs)
+    (λ c. search needs)
     is-stored-requires
-    seen-with-requires
-    judged-requires-2
-    same-length
+    (λ c κs. search needs)
+    (λ c κs. search needs)
+    (λ c. search needs)
     returns-2)

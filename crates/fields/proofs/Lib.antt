@@ -1,6 +1,0 @@
-pub mod Ranges
-pub mod Taking
-pub mod TermParts
-pub mod Gathering
-pub mod Meaning
-pub mod Decided

@@ -1,2 +1,0 @@
-pub mod Worded
-pub mod Fields

@@ -1,0 +1,10 @@
+pub mod Parts
+pub mod Regions
+pub mod Walking
+pub mod LineKinds
+pub mod Statements
+pub mod KindParts
+pub mod Judging
+pub mod Arms
+pub mod Indexing
+pub mod Decided

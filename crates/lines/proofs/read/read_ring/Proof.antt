@@ -1,0 +1,24 @@
+-- `lines::read::read_ring` meets its contract: a keyword and a number in a row. No loop. Assumes nothing.
+use borrow.Author.Needs.{needs}
+use Rattle.words.proofs.Parts.{within-refl}
+use Rattle.paper.specs.Grammar.{bytes, number}
+use Rattle.lines.proofs.Parts.{part-took}
+use Rattle.lines.proofs.KindParts.{first-stops, ring-line}
+use Rattle.lines.proofs.read.read_ring.Statement.{statement}
+use Rattle.lines.proofs.read.read_ring.Tie as tie
+
+returns : tie.Need-returns
+unfolding bytes
+returns c =
+    let h : tie.After-headed = c .before .before in
+    first-stops (bytes "ring") number _ within-refl (h .headed .ensures) (c .if1 .taken)
+
+returns-2 : tie.Need-returns-2
+unfolding bytes
+returns-2 c =
+    let h : tie.After-headed = c .before .before .before in
+    ring-line (h .headed .result) (part-took (h .headed .ensures) (c .before .if1 .left)) (c .closed .ensures)
+
+pub read-ring-spec : {M : Type 1} → statement M
+read-ring-spec =
+    tie.close (tie.spec (λ c. search needs) (λ c κs. search needs) returns (λ c κs. search needs) returns-2)

@@ -1,0 +1,80 @@
+-- What is read of the parts of a line.
+use mathlib.Core.Path.{_≡_}
+use mathlib.Core.Bool.{Bool, true, _&&_, not, cond}
+use mathlib.Core.List.{List, [], _∷_}
+use mathlib.Core.Logic.{_⊎_}
+use Prim.Native.Nat.{ℕ, _+_, _*_}
+use lib.Dec.{eqb}
+use lib.ListN.{length}
+use Rattle.ground.specs.Lists.{every}
+use Rattle.limits.specs.Limits.{fieldTerms, termWords}
+use Rattle.limits.specs.Verdicts.{ACCEPTED, FORM, NUMBER, TERMS}
+use Rattle.words.specs.Parts.{Within}
+use Rattle.paper.specs.Grammar.{Bytes, Reader, next, literal, field, pair, pairs}
+use Rattle.paper.specs.Statement.{Written, Pair, isIndex, inRange, tooManyTerms}
+use Rattle.paper.specs.Rules.{first}
+use Rattle.written.specs.Worded.{Holds}
+use Rattle.reader.specs.Places.{Got, Fails}
+use Rattle.reader.specs.declared.field.FieldRead.{FieldRead}
+use Rattle.scratch.specs.Scratch.{factorAt, goalAt}
+use Rattle.lines.specs.declared.part.NumberRead.{NumberRead}
+use Rattle.lines.specs.declared.part.PairRead.{PairRead}
+use Rattle.lines.specs.declared.part.PairsRead.{PairsRead}
+
+-- ---- verdicts on what is written: NUMBER where a number is out of its range, else TERMS where a field has too many terms
+abbrev pub verdictOf : Bool → Bool → ℕ
+verdictOf ranged few = first ((NUMBER, not ranged) ∷ (TERMS, not few) ∷ [])
+
+-- the verdict on two parts by the verdicts on each
+unfoldable pub lesserOf : ℕ → ℕ → ℕ
+lesserOf a b = cond (eqb a ACCEPTED) b (cond (eqb b NUMBER) b a)
+
+-- a part that has no field
+abbrev pub always : {A : Type 0} → A → Bool
+always x = true
+
+unfoldable pub fewTerms : Written → Bool
+fewTerms p = not (tooManyTerms p)
+
+unfoldable pub pairRanged : Pair → Bool
+pairRanged q = isIndex (q .index) && inRange (q .factor)
+
+unfoldable pub pairFew : Pair → Bool
+pairFew q = fewTerms (q .factor)
+
+-- ---- x is read from at up to e, with its verdict, and P holds of it where nothing refuses it
+pub record Took {A : Type 0} (read : Reader A) (ranged few : A → Bool) (P : A → Type 0) (s : Bytes) (at e why : ℕ) : Type 0 where
+  pub value : A
+  pub taken : Got read s at value e
+  pub verdict : why ≡ verdictOf (ranged value) (few value)
+  pub holds : why ≡ ACCEPTED → P value
+
+-- or the reader stops at e
+abbrev pub Part : {A : Type 0} → Reader A → (A → Bool) → (A → Bool) → (A → Type 0) → Bytes → ℕ → ℕ → ℕ → Type 0
+Part read ranged few P s at e why = ((why ≡ FORM) × Fails read s at e) ⊎ Took read ranged few P s at e why
+
+-- ---- the parts, each with what the code gives of it
+abbrev pub NumberPart : Reader ℕ → (ℕ → Bool) → Bytes → ℕ → NumberRead → Type 0
+NumberPart read ranged s at r = Part read ranged always (λ n. r .value ≡ n) s at (r .end) (r .why)
+
+pub record FieldPart (s : Bytes) (at base : ℕ) (words words′ : List ℕ) (r : FieldRead) : Type 0 where
+  pub part : Part field inRange fewTerms (λ p. Holds p (r .terms) base words′) s at (r .end) (r .why)
+  pub kept : Within base (base + fieldTerms * termWords) words words′
+
+pub record PairPart (s : Bytes) (at : ℕ) (words words′ : List ℕ) (r : PairRead) : Type 0 where
+  pub part : Part pair pairRanged pairFew (λ q. (r .index ≡ q .index) × Holds (q .factor) (r .terms) factorAt words′) s at (r .end) (r .why)
+  pub kept : Within factorAt goalAt words words′
+
+pub record PairsPart (s : Bytes) (at : ℕ) (words words′ : List ℕ) (r : PairsRead) : Type 0 where
+  pub part : Part pairs (every pairRanged) (every pairFew) (λ qs. Unit {0}) s at (r .end) (r .why)
+  pub kept : Within factorAt goalAt words words′
+
+-- ---- a keyword before a part
+abbrev pub behind : {A : Type 0} → Bytes → Reader A → Reader A
+behind w read = λ s. next (literal w s) (λ _. read)
+
+-- ---- the pairs qs stand from the tab at `at` to the end of the line, in range and short
+pub record PairsAt (s : Bytes) (at : ℕ) (qs : List Pair) : Type 0 where
+  pub taken : Got pairs s at qs (length s)
+  pub ranged : every pairRanged qs ≡ true
+  pub few : every pairFew qs ≡ true

@@ -1,6 +1,0 @@
-pub mod Walking
-pub mod Storing
-pub mod Multiplying
-pub mod Adding
-pub mod Summing
-pub mod Decided

@@ -1,4 +1,0 @@
-pub mod Reducing
-pub mod Goals
-pub mod Squares
-pub mod Decided

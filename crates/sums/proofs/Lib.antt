@@ -1,0 +1,5 @@
+pub mod Rows
+pub mod Multiplying
+pub mod Adding
+pub mod Summing
+pub mod Decided

@@ -1,0 +1,1 @@
+// Written polynomials as words hold them: definitions and laws, and no code.
