@@ -48,9 +48,6 @@ module _ {A : Type 0} (x : A) where
   abbrev pub onLin : (ℕ → Written → List Pair → A) → Statement → A
   onLin f st = elim st [ ring r ↦ x | input i p ↦ x | goal p ↦ x | lin i p qs ↦ f i p qs | del i ↦ x | ext i v p ↦ x ]
 
-  abbrev pub onDel : (ℕ → A) → Statement → A
-  onDel f st = elim st [ ring r ↦ x | input i p ↦ x | goal p ↦ x | lin i p qs ↦ x | del i ↦ f i | ext i v p ↦ x ]
-
   abbrev pub onExt : (ℕ → ℕ → Written → A) → Statement → A
   onExt f st = elim st [ ring r ↦ x | input i p ↦ x | goal p ↦ x | lin i p qs ↦ x | del i ↦ x | ext i v p ↦ f i v p ]
 
