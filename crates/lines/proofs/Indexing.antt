@@ -15,12 +15,11 @@ use Rattle.limits.specs.Limits.{greatestIndex, lineBytes}
 use Rattle.limits.specs.Verdicts.{ACCEPTED, FORM, NUMBER, TERMS}
 use Rattle.paper.specs.Rules as paper
 use Rattle.paper.specs.Rules.{first, rules}
-use Rattle.paper.specs.Grammar.{Bytes, bytes, Line, Read, got, stuck, Reader, next, give, literal, end, number, field, pairs, LineKind, ringLine, goalLine, kinds, beginsAlike, oneOf, statement}
+use Rattle.paper.specs.Grammar.{Bytes, bytes, Line, Read, got, stuck, Reader, next, give, literal, end, number, field, pairs, LineKind, wholeLine, ringLine, goalLine, kinds, beginsAlike, oneOf, statement}
 use Rattle.paper.specs.Statement.{modulo, Statement, ring, input, goal, lin, del, ext, within, isIndex, isVariable, inRange, numbersInRange}
 use Rattle.paper.specs.Answer.{Outcome, stands, refused, indexOf, judge, judgeItem, itemOf}
 use Rattle.paper.proofs.Reading.{clash, parted}
-use Rattle.lines.specs.Parts.{always, behind, pairRanged, Took, NumberPart, verdictOf}
-use Rattle.lines.specs.Lines.{whole}
+use Rattle.lines.specs.Parts.{always, keyed, pairRanged, Taken, NumberPart, verdictOf}
 use Rattle.lines.specs.Judged.{indexOfRead, LineJudged}
 use Rattle.steps.specs.declared.state.State.{State}
 use Rattle.steps.specs.declared.state.Step.{Step}
@@ -40,7 +39,7 @@ ended-got s true e = e
 ended-got s false e = absurd (short-of (oneOf kinds s) e)
 
 -- ---- the statement of a whole line is that of its fields
-fields-of : (k : LineKind) (s : Bytes) {st : Statement} {r : Bytes} → whole k s ≡ got st r → (t : Bytes) × (u : Bytes) × (literal (k .0) s ≡ got tt t) × (k .1 t ≡ got st u)
+fields-of : (k : LineKind) (s : Bytes) {st : Statement} {r : Bytes} → wholeLine k s ≡ got st r → (t : Bytes) × (u : Bytes) × (literal (k .0) s ≡ got tt t) × (k .1 t ≡ got st u)
 fields-of k s {st} e =
     let l = parted (literal (k .0) s) _ e in
     let f = parted (k .1 (l .rest)) _ (l .second) in
@@ -54,7 +53,7 @@ Has i x = (indexOf x ≡ i) × (numbersInRange x ≡ true → isIndex i ≡ true
 
 -- a number first, which all that follows keeps as the index
 numbered : (w : Bytes) (g : ℕ → Reader Statement) → ((i : ℕ) (t : Bytes) (x : Statement) (u : Bytes) → g i t ≡ got x u → Has i x)
-    → (s : Bytes) {st : Statement} {r : Bytes} → whole (w, λ t. next (number t) g) s ≡ got st r → (u : Bytes) × (behind w number s ≡ got (indexOf st) u) × Has (indexOf st) st
+    → (s : Bytes) {st : Statement} {r : Bytes} → wholeLine (w, λ t. next (number t) g) s ≡ got st r → (u : Bytes) × (keyed w number s ≡ got (indexOf st) u) × Has (indexOf st) st
 numbered w g h s {st} e =
     let f = fields-of (w, λ t. next (number t) g) s e in
     let i = parted (number (f .0)) g (f .3) in
@@ -65,14 +64,14 @@ numbered w g h s {st} e =
     )
 
 -- ---- what the number of the head is, where the numbers of the line are in range
-module _ (w s : Bytes) (st : Statement) (n : NumberRead) (p : NumberPart (behind w number) (within 1 greatestIndex) s 0 n) where
-  head-index : (u : Bytes) → behind w number s ≡ got (indexOf st) u → isIndex (indexOf st) ≡ true → n .value ≡ indexOf st
+module _ (w s : Bytes) (st : Statement) (n : NumberRead) (p : NumberPart (keyed w number) (within 1 greatestIndex) s 0 n) where
+  head-index : (u : Bytes) → keyed w number s ≡ got (indexOf st) u → isIndex (indexOf st) ≡ true → n .value ≡ indexOf st
   unfolding isIndex first
   head-index u e h = ⊎-elim (λ f. absurd (clash (sym (f .1 .reads) ∙ e))) took p
     where
-      took : Took (behind w number) (within 1 greatestIndex) always (λ i. n .value ≡ i) s 0 (n .end) (n .why) → n .value ≡ indexOf st
+      took : Taken (keyed w number) (within 1 greatestIndex) always (λ i. n .value ≡ i) s 0 (n .end) (n .why) → n .value ≡ indexOf st
       took t =
-          let q : behind w number s ≡ got (t .value) (drop (n .end) s) = t .taken .reads in
+          let q : keyed w number s ≡ got (t .value) (drop (n .end) s) = t .taken .reads in
           let same : t .value ≡ indexOf st = cc in
           let fine : n .why ≡ ACCEPTED = t .verdict ∙ ap (λ (b : Bool). verdictOf b true) (ap (within 1 greatestIndex) same ∙ h) in
           t .holds fine ∙ same
@@ -107,40 +106,40 @@ ext-has i t x u e =
 
 -- ---- a line that begins with b is of the kind k
 module _ (s : Bytes) (h : 0 < length s) where
-  of-kind : (b : ℕ) (k : LineKind) → ((w : Bytes) → oneOf kinds (b ∷ w) ≡ whole k (b ∷ w)) → getD s 0 0 ≡ b → {st : Statement} {t : Bytes}
-      → statement (record { content = s; ended = true }) ≡ got st t → whole k s ≡ got st t
+  of-kind : (b : ℕ) (k : LineKind) → ((w : Bytes) → oneOf kinds (b ∷ w) ≡ wholeLine k (b ∷ w)) → getD s 0 0 ≡ b → {st : Statement} {t : Bytes}
+      → statement (record { content = s; ended = true }) ≡ got st t → wholeLine k s ≡ got st t
   unfolding statement
   of-kind b k same e q =
       let begins : s ≡ b ∷ drop 1 s = drop-cons s 0 0 h ∙ ap (λ (x : ℕ). x ∷ drop 1 s) e in
-      sym (subst (λ (l : Bytes). oneOf kinds l ≡ whole k l) (sym begins) (same (drop 1 s))) ∙ q
+      sym (subst (λ (l : Bytes). oneOf kinds l ≡ wholeLine k l) (sym begins) (same (drop 1 s))) ∙ q
 
-  indexed : (b : ℕ) (w : Bytes) (g : ℕ → Reader Statement) → ((v : Bytes) → oneOf kinds (b ∷ v) ≡ whole (w, λ t. next (number t) g) (b ∷ v))
+  indexed : (b : ℕ) (w : Bytes) (g : ℕ → Reader Statement) → ((v : Bytes) → oneOf kinds (b ∷ v) ≡ wholeLine (w, λ t. next (number t) g) (b ∷ v))
       → ((i : ℕ) (t : Bytes) (x : Statement) (u : Bytes) → g i t ≡ got x u → Has i x) → getD s 0 0 ≡ b
-      → (n : NumberRead) → NumberPart (behind w number) (within 1 greatestIndex) s 0 n
+      → (n : NumberRead) → NumberPart (keyed w number) (within 1 greatestIndex) s 0 n
       → (st : Statement) (t : Bytes) → statement (record { content = s; ended = true }) ≡ got st t → numbersInRange st ≡ true → n .value ≡ indexOf st
   indexed b w g same has e n p st t q r =
       let x = numbered w g has s (of-kind b (w, λ t. next (number t) g) same e q) in
       head-index w s st n p (x .0) (x .1) (x .2 .1 r)
 
   module _ (n : NumberRead) (st : Statement) (t : Bytes) (q : statement (record { content = s; ended = true }) ≡ got st t) (r : numbersInRange st ≡ true) where
-    pub index-input : getD s 0 0 ≡ 105 → NumberPart (behind (bytes "in") number) (within 1 greatestIndex) s 0 n → n .value ≡ indexOf st
+    pub index-input : getD s 0 0 ≡ 105 → NumberPart (keyed (bytes "in") number) (within 1 greatestIndex) s 0 n → n .value ≡ indexOf st
     unfolding kinds oneOf beginsAlike bytes
     index-input e p = indexed 105 (bytes "in") (λ i t. next (field t) (λ p. give (input i p))) (λ v. refl) in-has e n p st t q r
 
-    pub index-lin : getD s 0 0 ≡ 108 → NumberPart (behind (bytes "lin") number) (within 1 greatestIndex) s 0 n → n .value ≡ indexOf st
+    pub index-lin : getD s 0 0 ≡ 108 → NumberPart (keyed (bytes "lin") number) (within 1 greatestIndex) s 0 n → n .value ≡ indexOf st
     unfolding kinds oneOf beginsAlike bytes
     index-lin e p = indexed 108 (bytes "lin") (λ i t. next (field t) (λ p t. next (pairs t) (λ qs. give (lin i p qs)))) (λ v. refl) lin-has e n p st t q r
 
-    pub index-del : getD s 0 0 ≡ 100 → NumberPart (behind (bytes "del") number) (within 1 greatestIndex) s 0 n → n .value ≡ indexOf st
+    pub index-del : getD s 0 0 ≡ 100 → NumberPart (keyed (bytes "del") number) (within 1 greatestIndex) s 0 n → n .value ≡ indexOf st
     unfolding kinds oneOf beginsAlike bytes
     index-del e p = indexed 100 (bytes "del") (λ i. give (del i)) (λ v. refl) del-has e n p st t q r
 
-    pub index-ext : getD s 0 0 ≡ 101 → NumberPart (behind (bytes "ext") number) (within 1 greatestIndex) s 0 n → n .value ≡ indexOf st
+    pub index-ext : getD s 0 0 ≡ 101 → NumberPart (keyed (bytes "ext") number) (within 1 greatestIndex) s 0 n → n .value ≡ indexOf st
     unfolding kinds oneOf beginsAlike bytes
     index-ext e p = indexed 101 (bytes "ext") (λ i t. next (number t) (λ v t. next (field t) (λ p. give (ext i v p)))) (λ v. refl) ext-has e n p st t q r
 
   -- ---- a line of another kind has none
-  ring-none : {st : Statement} {r : Bytes} → whole ringLine s ≡ got st r → 0 ≡ indexOf st
+  ring-none : {st : Statement} {r : Bytes} → wholeLine ringLine s ≡ got st r → 0 ≡ indexOf st
   unfolding indexOf
   ring-none {st} e =
       let f = fields-of ringLine s e in
@@ -148,7 +147,7 @@ module _ (s : Bytes) (h : 0 < length s) where
       let same : ring (modulo (k .value)) ≡ st = (let w = k .second in cc) in
       ap indexOf same
 
-  goal-none : {st : Statement} {r : Bytes} → whole goalLine s ≡ got st r → 0 ≡ indexOf st
+  goal-none : {st : Statement} {r : Bytes} → wholeLine goalLine s ≡ got st r → 0 ≡ indexOf st
   unfolding indexOf
   goal-none {st} e =
       let f = fields-of goalLine s e in

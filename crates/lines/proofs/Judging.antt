@@ -23,7 +23,7 @@ use Rattle.steps.specs.Stepped.{Room, Stepped}
 use Rattle.steps.proofs.Calling.{ready-kept, state-kept}
 use Rattle.lines.specs.declared.read.LineRead.{LineRead}
 use Rattle.lines.specs.Parts.{verdictOf}
-use Rattle.lines.specs.Lines.{fewInFields, Stops, Turns, Says, LineIs}
+use Rattle.lines.specs.Lines.{fewInFields, Stops, Turns, Passes, LineIs}
 use Rattle.lines.specs.Judged.{Readable, StepIs, indexOfRead, LineJudged}
 
 abbrev lineOf : Bytes → Bool → Line
@@ -35,7 +35,7 @@ module _ {s : Bytes} {ended : Bool} {words words′ : List ℕ} {r : LineRead} w
   readable l = go (l .said)
     where
       go : Stops ((t : Bytes) × (statement (lineOf s ended) ≡ stuck t)) r
-          ⊎ (Turns (λ st. statement (lineOf s ended) ≡ got st []) r ⊎ Says (λ st. statement (lineOf s ended) ≡ got st []) s words′ r) → Readable s words′ r
+          ⊎ (Turns (λ st. statement (lineOf s ended) ≡ got st []) r ⊎ Passes (λ st. statement (lineOf s ended) ≡ got st []) s words′ r) → Readable s words′ r
       go (inl h) = inr (FORM, h .form)
       go (inr (inl h)) = inr (_, h .refused)
       go (inr (inr h)) = inl (record { value = h .value; ranged = h .ranged; short = h .short; is = h .is })
@@ -117,7 +117,7 @@ module _ {capacity : ℕ} {line : Bytes} {ended : Bool} {s : State} {pool words 
       turned v (h .some) (read-refused (h .value) (h .read) v (h .some) (first-read capacity (stateOf s pool words) (h .value) (h .some)))
       (b .0) (b .1) (b .2) (back-length (b .3))
 
-  judged-says : Says (λ st. statement (lineOf line ended) ≡ got st []) line words′ read → Judges
+  judged-says : Passes (λ st. statement (lineOf line ended) ≡ got st []) line words′ read → Judges
   judged-says h =
       let q : Stepped capacity (h .value) s pool words′ r pool′ words″ = x .steps (record { value = h .value; ranged = h .ranged; short = h .short; is = h .is }) in
       let e : stateOf s pool words′ ≡ stateOf s pool words = state-kept s pool words words′ (l .kept .after) in
@@ -139,7 +139,7 @@ module _ {capacity : ℕ} {line : Bytes} {ended : Bool} {s : State} {pool words 
   judged = go (l .said)
     where
       go : Stops ((t : Bytes) × (statement (lineOf line ended) ≡ stuck t)) read
-          ⊎ (Turns (λ st. statement (lineOf line ended) ≡ got st []) read ⊎ Says (λ st. statement (lineOf line ended) ≡ got st []) line words′ read) → Judges
+          ⊎ (Turns (λ st. statement (lineOf line ended) ≡ got st []) read ⊎ Passes (λ st. statement (lineOf line ended) ≡ got st []) line words′ read) → Judges
       go (inl h) = judged-stops h
       go (inr (inl h)) = judged-turns h
       go (inr (inr h)) = judged-says h

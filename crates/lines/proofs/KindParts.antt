@@ -20,7 +20,7 @@ use Rattle.reader.proofs.Following.{got-then, fails-then, fails-first, got-give
 use Rattle.reader.proofs.Fields.{variable-range}
 use Rattle.scratch.specs.Scratch.{statedAt, factorAt, goalAt}
 use Rattle.scratch.proofs.Keeping.{kept-factor, holds-kept}
-use Rattle.lines.specs.Parts.{verdictOf, lesserOf, always, fewTerms, pairRanged, pairFew, Took, Part, behind}
+use Rattle.lines.specs.Parts.{verdictOf, lesserOf, always, fewTerms, pairRanged, pairFew, Taken, Piece, keyed}
 use Rattle.lines.specs.Lines.{fewInFields, closedOf, KindIs}
 use Rattle.lines.specs.declared.part.NumberRead.{NumberRead}
 use Rattle.lines.specs.declared.part.PairsRead.{PairsRead}
@@ -32,19 +32,19 @@ use Rattle.lines.proofs.Statements.{ranged-ring, ranged-input, ranged-g
 
 -- ---- a keyword, a first part, and what G reads behind them
 module _ (w : Bytes) {A : Type 0} (read : Reader A) (G : A → Reader Statement) where
-  in-row : (s : Bytes) → behind w (λ r. next (read r) G) s ≡ next (behind w read s) G
+  in-row : (s : Bytes) → keyed w (λ r. next (read r) G) s ≡ next (keyed w read s) G
   in-row s = sym (next-assoc (literal w s) (λ _. read) G)
 
-  behind-got : {s : Bytes} {x : A} {m : ℕ} {st : Statement} {e : ℕ} → Got (behind w read) s 0 x m → Got (G x) s m st e → Got (behind w (λ r. next (read r) G)) s 0 st e
-  behind-got {s} g h = got-as (in-row s) (got-then (behind w read) G g h)
+  behind-got : {s : Bytes} {x : A} {m : ℕ} {st : Statement} {e : ℕ} → Got (keyed w read) s 0 x m → Got (G x) s m st e → Got (keyed w (λ r. next (read r) G)) s 0 st e
+  behind-got {s} g h = got-as (in-row s) (got-then (keyed w read) G g h)
 
   module _ {ranged few : A → Bool} {P : A → Type 0} {s : Bytes} {words words′ : List ℕ} (kept : Within statedAt goalAt words words′) where
-    pub first-stops : {why p : ℕ} → Part (behind w read) ranged few P s 0 p why → why ≡ FORM → KindIs (w, λ r. next (read r) G) s words words′ (Refused why)
-    first-stops h f = kind-stops (w, λ r. next (read r) G) kept f (fails-as (in-row s) (fails-first (behind w read) G (part-stuck h f)))
+    pub first-stops : {why p : ℕ} → Piece (keyed w read) ranged few P s 0 p why → why ≡ FORM → KindIs (w, λ r. next (read r) G) s words words′ (Refused why)
+    first-stops h f = kind-stops (w, λ r. next (read r) G) kept f (fails-as (in-row s) (fails-first (keyed w read) G (part-stuck h f)))
 
-    pub later-stops : {m v why p : ℕ} (t : Took (behind w read) ranged few P s 0 m v) → Fails (G (t .value)) s m p → why ≡ FORM
+    pub later-stops : {m v why p : ℕ} (t : Taken (keyed w read) ranged few P s 0 m v) → Fails (G (t .value)) s m p → why ≡ FORM
         → KindIs (w, λ r. next (read r) G) s words words′ (Refused why)
-    later-stops t h f = kind-stops (w, λ r. next (read r) G) kept f (fails-as (in-row s) (fails-then (behind w read) G (t .taken) h))
+    later-stops t h f = kind-stops (w, λ r. next (read r) G) kept f (fails-as (in-row s) (fails-then (keyed w read) G (t .taken) h))
 
 -- ---- verdicts
 two : {why v w : ℕ} (a b x y : Bool) → why ≡ lesserOf v w → v ≡ verdictOf a x → w ≡ verdictOf b y → why ≡ verdictOf (a && b) (x && y)
@@ -66,10 +66,10 @@ both-kept k l = within-trans (stated-kept k) (factor-kept l)
 
 -- ---- the kinds; a number behind a keyword, and one behind a tab
 abbrev Head : Bytes → (ℕ → Bool) → Bytes → NumberRead → Type 0
-Head w ranged s i = Took (behind w number) ranged always (λ n. i .value ≡ n) s 0 (i .end) (i .why)
+Head w ranged s i = Taken (keyed w number) ranged always (λ n. i .value ≡ n) s 0 (i .end) (i .why)
 
-abbrev Stands : Bytes → ℕ → List ℕ → FieldRead → Type 0
-Stands s at words p = Took field inRange fewTerms (λ w. Holds w (p .terms) statedAt words) s at (p .end) (p .why)
+abbrev FieldStands : Bytes → ℕ → List ℕ → FieldRead → Type 0
+FieldStands s at words p = Taken field inRange fewTerms (λ w. Holds w (p .terms) statedAt words) s at (p .end) (p .why)
 
 module _ {s : Bytes} {words : List ℕ} {r : LineRead} where
   pub ring-line : (k : NumberRead) → Head (bytes "ring") (within 1 greatestRing) s k → r ≡ closedOf (length s) (k .end) (k .why) (Ring (k .value)) → KindIs ringLine s words words r
@@ -95,7 +95,7 @@ module _ {s : Bytes} {words : List ℕ} {r : LineRead} where
       }) q
 
   module _ {words′ : List ℕ} (p : FieldRead) (kept : Within statedAt (statedAt + fieldTerms * termWords) words words′) where
-    pub goal-line : {m : ℕ} → Got (literal (bytes "goal")) s 0 tt m → Stands s m words′ p → r ≡ closedOf (length s) (p .end) (p .why) (Goal (p .terms))
+    pub goal-line : {m : ℕ} → Got (literal (bytes "goal")) s 0 tt m → FieldStands s m words′ p → r ≡ closedOf (length s) (p .end) (p .why) (Goal (p .terms))
         → KindIs goalLine s words words′ r
     unfolding fewInFields fields
     goal-line k f q =
@@ -107,7 +107,7 @@ module _ {s : Bytes} {words : List ℕ} {r : LineRead} where
           holds = λ a e. (f .value, refl, f .holds a);
         }) q
 
-    pub input-line : (i : NumberRead) {why : ℕ} → Head (bytes "in") (within 1 greatestIndex) s i → Stands s (i .end) words′ p → why ≡ lesserOf (i .why) (p .why)
+    pub input-line : (i : NumberRead) {why : ℕ} → Head (bytes "in") (within 1 greatestIndex) s i → FieldStands s (i .end) words′ p → why ≡ lesserOf (i .why) (p .why)
         → r ≡ closedOf (length s) (p .end) why (Input (i .value) (p .terms)) → KindIs inputLine s words words′ r
     unfolding isIndex fewInFields fields
     input-line i h f l q =
@@ -123,7 +123,7 @@ module _ {s : Bytes} {words : List ℕ} {r : LineRead} where
         }) q
 
     pub ext-line : (i v : NumberRead) {numbers why : ℕ} → Head (bytes "ext") (within 1 greatestIndex) s i
-        → Took number (within 0 (variables - 1)) always (λ n. v .value ≡ n) s (i .end) (v .end) (v .why) → Stands s (v .end) words′ p
+        → Taken number (within 0 (variables - 1)) always (λ n. v .value ≡ n) s (i .end) (v .end) (v .why) → FieldStands s (v .end) words′ p
         → numbers ≡ lesserOf (i .why) (v .why) → why ≡ lesserOf numbers (p .why)
         → r ≡ closedOf (length s) (p .end) why (Ext (i .value) (v .value) (p .terms)) → KindIs extLine s words words′ r
     unfolding isIndex fewInFields fields
@@ -143,8 +143,8 @@ module _ {s : Bytes} {words : List ℕ} {r : LineRead} where
               (f .value, ap₂ (λ (n x : ℕ). ext n x (f .value)) (sym (h .holds (d .0))) (sym (g .holds (d .1))), f .holds (b .1));
         }) q
 
-    pub lin-line : {words″ : List ℕ} (i : NumberRead) (qs : PairsRead) {stated why : ℕ} → Head (bytes "lin") (within 1 greatestIndex) s i → Stands s (i .end) words′ p
-        → Took pairs (every pairRanged) (every pairFew) (λ _. Unit {0}) s (p .end) (qs .end) (qs .why) → Within factorAt goalAt words′ words″
+    pub lin-line : {words″ : List ℕ} (i : NumberRead) (qs : PairsRead) {stated why : ℕ} → Head (bytes "lin") (within 1 greatestIndex) s i → FieldStands s (i .end) words′ p
+        → Taken pairs (every pairRanged) (every pairFew) (λ _. Unit {0}) s (p .end) (qs .end) (qs .why) → Within factorAt goalAt words′ words″
         → stated ≡ lesserOf (i .why) (p .why) → why ≡ lesserOf stated (qs .why)
         → r ≡ closedOf (length s) (qs .end) why (Lin (i .value) (p .terms) (p .end)) → KindIs linLine s words words″ r
     unfolding isIndex

@@ -13,7 +13,7 @@ use Rattle.ground.proofs.Tests.{by-cond}
 use Rattle.limits.specs.Verdicts.{ACCEPTED, FORM}
 use Rattle.words.specs.Parts.{Within}
 use Rattle.words.proofs.Parts.{within-refl}
-use Rattle.paper.specs.Grammar.{Bytes, bytes, Read, got, stuck, Reader, next, give, literal, end, LineKind, kinds, beginsAlike, oneOf, statement}
+use Rattle.paper.specs.Grammar.{Bytes, bytes, Read, got, stuck, Reader, next, give, literal, end, LineKind, wholeLine, kinds, beginsAlike, oneOf, statement}
 use Rattle.paper.specs.Statement.{Statement, numbersInRange}
 use Rattle.paper.proofs.Reading.{next-assoc}
 use Rattle.reader.specs.Places.{Got, Fails}
@@ -22,8 +22,8 @@ use Rattle.reader.specs.declared.keyword.Word.{Word}
 use Rattle.reader.specs.declared.keyword.Word.the-variants.{Read as Known, Refused as Unknown}
 use Rattle.reader.proofs.Following.{got-then, fails-then, fails-first, got-give}
 use Rattle.scratch.specs.Scratch.{statedAt, goalAt}
-use Rattle.lines.specs.Parts.{Took, behind}
-use Rattle.lines.specs.Lines.{fewInFields, Is, closedOf, whole, KindIs, LineIs}
+use Rattle.lines.specs.Parts.{Taken, keyed}
+use Rattle.lines.specs.Lines.{fewInFields, Is, closedOf, KindIs, LineIs}
 use Rattle.lines.specs.declared.read.LineRead.{LineRead}
 use Rattle.lines.specs.declared.read.LineRead.the-variants.{Refused}
 use Rattle.lines.proofs.Parts.{verdict-accepted}
@@ -70,9 +70,9 @@ module _ (n e why : ℕ) (r : LineRead) where
 
 -- ---- a line of one kind: its keyword with its fields, and then the end
 abbrev pub headedBy : LineKind → Reader Statement
-headedBy k = behind (k .0) (k .1)
+headedBy k = keyed (k .0) (k .1)
 
-closing : (k : LineKind) (s : Bytes) → whole k s ≡ next (headedBy k s) (λ st t. next (end t) (λ _. give st))
+closing : (k : LineKind) (s : Bytes) → wholeLine k s ≡ next (headedBy k s) (λ st t. next (end t) (λ _. give st))
 closing k s = sym (next-assoc (literal (k .0) s) (λ _. k .1) (λ st t. next (end t) (λ _. give st)))
 
 module _ (k : LineKind) {s : Bytes} {words words′ : List ℕ} (kept : Within statedAt goalAt words words′) where
@@ -80,7 +80,7 @@ module _ (k : LineKind) {s : Bytes} {words words′ : List ℕ} (kept : Within s
   kind-stops {why} {p} e f =
       record { said = inl (record { form = ap (λ (v : ℕ). Refused v) e; stuck = (p, fails-as (closing k s) (fails-first (headedBy k) _ f)) }); kept = kept }
 
-  module _ (read : LineRead) {e why : ℕ} (t : Took (headedBy k) numbersInRange fewInFields (λ st. e ≡ length s → Is s words′ st read) s 0 e why) where
+  module _ (read : LineRead) {e why : ℕ} (t : Taken (headedBy k) numbersInRange fewInFields (λ st. e ≡ length s → Is s words′ st read) s 0 e why) where
     stops-short : e < length s → KindIs k s words words′ (Refused FORM)
     stops-short h =
         record {
@@ -88,11 +88,11 @@ module _ (k : LineKind) {s : Bytes} {words words′ : List ℕ} (kept : Within s
           kept = kept;
         }
 
-    all-read : length s ≤ e → Got (whole k) s 0 (t .value) (length s)
+    all-read : length s ≤ e → Got (wholeLine k) s 0 (t .value) (length s)
     all-read h =
         let i = t .taken .inside in
         let q : e ≡ length s = omega arith in
-        subst (λ (n : ℕ). Got (whole k) s 0 (t .value) n) q
+        subst (λ (n : ℕ). Got (wholeLine k) s 0 (t .value) n) q
         (got-as (closing k s) (got-then (headedBy k) _ (t .taken) (got-then end _ (end-here s e h i) (got-give (t .value) i))))
 
     stands : length s ≤ e → why ≡ ACCEPTED → KindIs k s words words′ read
@@ -125,7 +125,7 @@ begins : {s : Bytes} → 0 < length s → (b : ℕ) → getD s 0 0 ≡ b → s �
 begins {s} h b e = drop-cons s 0 0 h ∙ ap (λ (x : ℕ). x ∷ drop 1 s) e
 
 module _ {s : Bytes} {words words′ : List ℕ} {r : LineRead} where
-  line-of : (k : LineKind) → oneOf kinds s ≡ whole k s → KindIs k s words words′ r → LineIs s true words words′ r
+  line-of : (k : LineKind) → oneOf kinds s ≡ wholeLine k s → KindIs k s words words′ r → LineIs s true words words′ r
   unfolding statement
   line-of k here h =
       record {
@@ -138,12 +138,12 @@ module _ {s : Bytes} {words words′ : List ℕ} {r : LineRead} where
         kept = h .kept;
       }
     where
-      ends : (st : Statement) → Got (whole k) s 0 st (length s) → oneOf kinds s ≡ got st []
+      ends : (st : Statement) → Got (wholeLine k) s 0 st (length s) → oneOf kinds s ≡ got st []
       ends st g = here ∙ g .reads ∙ ap (λ (l : Bytes). got st l) (drop-length s)
 
-  pub kind-line : (b : ℕ) (k : LineKind) → ((w : Bytes) → oneOf kinds (b ∷ w) ≡ whole k (b ∷ w)) → 0 < length s → getD s 0 0 ≡ b
+  pub kind-line : (b : ℕ) (k : LineKind) → ((w : Bytes) → oneOf kinds (b ∷ w) ≡ wholeLine k (b ∷ w)) → 0 < length s → getD s 0 0 ≡ b
       → KindIs k s words words′ r → LineIs s true words words′ r
-  kind-line b k first h e = line-of k (subst (λ (l : Bytes). oneOf kinds l ≡ whole k l) (sym (begins h b e)) (first (drop 1 s)))
+  kind-line b k first h e = line-of k (subst (λ (l : Bytes). oneOf kinds l ≡ wholeLine k l) (sym (begins h b e)) (first (drop 1 s)))
 
 module _ (s : Bytes) (words : List ℕ) where
   refused-line : (ended : Bool) (t : Bytes) → statement (record { content = s; ended = ended }) ≡ stuck t → LineIs s ended words words (Refused FORM)

@@ -19,7 +19,7 @@ use Rattle.reader.specs.Numbers.{InRange}
 use Rattle.reader.specs.declared.number.Refusal.{Refusal}
 use Rattle.reader.proofs.Numbers.{within-yes, RefusedAs}
 use Rattle.reader.proofs.Following.{got-then, got-give, fails-then, fails-first}
-use Rattle.lines.specs.Parts.{verdictOf, lesserOf, always, Took, Part}
+use Rattle.lines.specs.Parts.{verdictOf, lesserOf, always, Taken, Piece}
 
 -- ---- verdicts
 -- of two parts
@@ -71,26 +71,26 @@ module _ (a b : ℕ) where
 
 -- ---- a part: it stops, or it is read
 module _ {A : Type 0} {read : Reader A} {ranged few : A → Bool} {P : A → Type 0} {s : Bytes} {at e why : ℕ} where
-  pub took-read : Took read ranged few P s at e why → why ≡ FORM → ⊥
+  pub took-read : Taken read ranged few P s at e why → why ≡ FORM → ⊥
   took-read t f = verdict-form (ranged (t .value)) (few (t .value)) (sym (t .verdict) ∙ f)
 
-  module _ (p : Part read ranged few P s at e why) where
+  module _ (p : Piece read ranged few P s at e why) where
     pub part-stuck : why ≡ FORM → Fails read s at e
     part-stuck f = ⊎-elim (λ q. q .1) (λ q. absurd (took-read q f)) p
 
-    pub part-took : (why ≡ FORM → ⊥) → Took read ranged few P s at e why
+    pub part-took : (why ≡ FORM → ⊥) → Taken read ranged few P s at e why
     part-took f = ⊎-elim (λ q. absurd (f (q .0))) (λ q. q) p
 
     -- behind a reader that gives nothing
-    pub part-behind : {m : ℕ} (before : Reader (Unit {0})) → Got before s m tt at → Part (λ r. next (before r) (λ _. read)) ranged few P s m e why
+    pub part-behind : {m : ℕ} (before : Reader (Unit {0})) → Got before s m tt at → Piece (λ r. next (before r) (λ _. read)) ranged few P s m e why
     part-behind before g = ⊎-elim (λ q. inl (q .0, fails-then before _ g (q .1)))
         (λ q. inr (record { value = q .value; taken = got-then before _ g (q .taken); verdict = q .verdict; holds = q .holds })) p
 
 -- ---- one part behind another; where either stops, reader's `fails-first` and `fails-then` say so
 module _ {A B : Type 0} (read : Reader A) {ranged few : A → Bool} {P : A → Type 0} (ranged′ few′ : B → Bool) (R : B → Type 0) {s : Bytes} {at : ℕ} where
   -- the value used
-  unfoldable pub took-map : {e why : ℕ} (g : A → B) (t : Took read ranged few P s at e why) → ranged (t .value) ≡ ranged′ (g (t .value)) → few (t .value) ≡ few′ (g (t .value))
-      → (P (t .value) → R (g (t .value))) → Took (λ r. next (read r) (λ x. give (g x))) ranged′ few′ R s at e why
+  unfoldable pub took-map : {e why : ℕ} (g : A → B) (t : Taken read ranged few P s at e why) → ranged (t .value) ≡ ranged′ (g (t .value)) → few (t .value) ≡ few′ (g (t .value))
+      → (P (t .value) → R (g (t .value))) → Taken (λ r. next (read r) (λ x. give (g x))) ranged′ few′ R s at e why
   took-map g t i j h =
       record {
         value = g (t .value);
@@ -99,10 +99,10 @@ module _ {A B : Type 0} (read : Reader A) {ranged few : A → Bool} {P : A → T
         holds = λ a. h (t .holds a);
       }
 
-  unfoldable pub took-then : {ranged₂ few₂ : B → Bool} {Q : B → Type 0} {m e v w why : ℕ} (f : A → Reader B) (t : Took read ranged few P s at m v)
-      (u : Took (f (t .value)) ranged₂ few₂ Q s m e w) → why ≡ lesserOf v w
+  unfoldable pub took-then : {ranged₂ few₂ : B → Bool} {Q : B → Type 0} {m e v w why : ℕ} (f : A → Reader B) (t : Taken read ranged few P s at m v)
+      (u : Taken (f (t .value)) ranged₂ few₂ Q s m e w) → why ≡ lesserOf v w
       → (ranged (t .value) && ranged₂ (u .value)) ≡ ranged′ (u .value) → (few (t .value) && few₂ (u .value)) ≡ few′ (u .value)
-      → (P (t .value) → Q (u .value) → R (u .value)) → Took (λ r. next (read r) f) ranged′ few′ R s at e why
+      → (P (t .value) → Q (u .value) → R (u .value)) → Taken (λ r. next (read r) f) ranged′ few′ R s at e why
   took-then {ranged₂} {few₂} {v = v} {w} f t u c i j h =
       record {
         value = u .value;
@@ -149,12 +149,12 @@ module _ (s : Bytes) (at : ℕ) where
 
 -- ---- numbers
 module _ {low high : ℕ} {s : Bytes} {at : ℕ} where
-  pub number-fine : {v e : ℕ} (x : ℕ) → x ≡ v → InRange decimal low high s at v e → Part decimal (within low high) always (λ n. x ≡ n) s at e ACCEPTED
+  pub number-fine : {v e : ℕ} (x : ℕ) → x ≡ v → InRange decimal low high s at v e → Piece decimal (within low high) always (λ n. x ≡ n) s at e ACCEPTED
   unfolding first
   number-fine {v} x q r =
       inr (record { value = v; taken = r .taken; verdict = ap (λ (b : Bool). verdictOf b true) (sym (within-yes low high v (r .above) (r .below))); holds = λ a. q })
 
-  pub number-out : (r : Refusal) (x : ℕ) → RefusedAs decimal low high s at r → Part decimal (within low high) always (λ n. x ≡ n) s at (r .end) (r .why)
+  pub number-out : (r : Refusal) (x : ℕ) → RefusedAs decimal low high s at r → Piece decimal (within low high) always (λ n. x ≡ n) s at (r .end) (r .why)
   unfolding first
   number-out r x q = ⊎-elim
       (λ o. inr (record {
@@ -169,7 +169,7 @@ module _ (s : Bytes) (at : ℕ) where
   unfolding number
   number-untabbed l t = fails-first tab _ (tab-fails s at l t)
 
-  pub number-tabbed : {ranged few : ℕ → Bool} {P : ℕ → Type 0} {e why : ℕ} → tabbed s at ≡ true → Part decimal ranged few P s (at + 1) e why
-      → Part number ranged few P s at e why
+  pub number-tabbed : {ranged few : ℕ → Bool} {P : ℕ → Type 0} {e why : ℕ} → tabbed s at ≡ true → Piece decimal ranged few P s (at + 1) e why
+      → Piece number ranged few P s at e why
   unfolding number
   number-tabbed t p = part-behind p tab (tab-got s at t)

@@ -24,7 +24,7 @@ use Rattle.reader.specs.Fields.{FieldStops, FieldAt, FieldIs}
 use Rattle.reader.specs.declared.field.FieldRead.{FieldRead}
 use Rattle.reader.proofs.Following.{fails-then, fails-first}
 use Rattle.reader.proofs.Ranges.{field-fine, field-holds}
-use Rattle.lines.specs.Parts.{lesserOf, fewTerms, pairRanged, pairFew, Took, Part, NumberPart, FieldPart, PairPart}
+use Rattle.lines.specs.Parts.{lesserOf, fewTerms, pairRanged, pairFew, Taken, Piece, NumberPart, FieldPart, PairPart}
 use Rattle.lines.specs.declared.part.NumberRead.{NumberRead}
 use Rattle.lines.specs.declared.part.PairRead.{PairRead}
 use Rattle.lines.proofs.Parts.{part-stuck, part-took, part-behind, took-map, took-then, tabbed, tab-got, tab-fails}
@@ -53,10 +53,10 @@ module _ (s : Bytes) (at base : ℕ) (words y : List ℕ) (l : base + fieldTerms
           short = h .short;
         }
 
-    stops : FieldStops s at r → Part polynomial inRange fewTerms (λ p. Holds p (r .terms) base x) s at (r .end) (r .why)
+    stops : FieldStops s at r → Piece polynomial inRange fewTerms (λ p. Holds p (r .terms) base x) s at (r .end) (r .why)
     stops f = inl (ap (λ (q : FieldRead). q .why) (f .gives), f .stops)
 
-    took : FieldAt greatestMagnitude s at (part base (e - base) words) y r → Took polynomial inRange fewTerms (λ p. Holds p (r .terms) base x) s at (r .end) (r .why)
+    took : FieldAt greatestMagnitude s at (part base (e - base) words) y r → Taken polynomial inRange fewTerms (λ p. Holds p (r .terms) base x) s at (r .end) (r .why)
     unfolding fewTerms
     took f =
         record {

@@ -23,8 +23,8 @@ use Rattle.sums.specs.declared.Sum.{Sum}
 use Rattle.sums.specs.Sums.{Summed}
 use Rattle.sums.proofs.Summing.{every-more, summed-kept}
 use Rattle.reader.specs.Places.{Got, Fails}
-use Rattle.reader.proofs.Following.{fails-first, Passed, passed-none, passed-more, passed-stuck, passed-stop}
-use Rattle.lines.specs.Parts.{verdictOf, lesserOf, pairRanged, pairFew, Took, PairPart, PairsAt}
+use Rattle.reader.proofs.Following.{fails-first, ItemsUpTo, passed-none, passed-more, passed-stuck, passed-stop}
+use Rattle.lines.specs.Parts.{verdictOf, lesserOf, pairRanged, pairFew, Taken, PairPart, PairsAt}
 use Rattle.lines.specs.declared.part.PairRead.{PairRead}
 use Rattle.lines.proofs.Parts.{verdict-both, part-stuck, part-took, tabbed, tab-inside, tab-byte, tab-got, tab-fails}
 
@@ -59,7 +59,7 @@ module _ (s : Bytes) (at : ℕ) where
 
 -- ---- looked over: pairs stand from at up to i, with their verdict
 abbrev pub PairsTo : Bytes → ℕ → ℕ → ℕ → Type 0
-PairsTo s at why i = Passed (code "\t") pair (λ qs. why ≡ verdictOf (every pairRanged qs) (every pairFew qs)) s at i
+PairsTo s at why i = ItemsUpTo (code "\t") pair (λ qs. why ≡ verdictOf (every pairRanged qs) (every pairFew qs)) s at i
 
 pub pairs-none : (s : Bytes) (at : ℕ) → at ≤ length s → PairsTo s at ACCEPTED at
 unfolding every first
@@ -67,7 +67,7 @@ pairs-none s at h = passed-none (code "\t") pair s at h refl
 
 module _ (s : Bytes) (at i why : ℕ) (p : PairsTo s at why i) where
   module _ (t : tabbed s i ≡ true) where
-    pub pairs-more : {P : Pair → Type 0} {e w : ℕ} (why′ : ℕ) → Took pair pairRanged pairFew P s (i + 1) e w → why′ ≡ lesserOf why w → PairsTo s at why′ e
+    pub pairs-more : {P : Pair → Type 0} {e w : ℕ} (why′ : ℕ) → Taken pair pairRanged pairFew P s (i + 1) e w → why′ ≡ lesserOf why w → PairsTo s at why′ e
     pairs-more why′ u c =
         passed-more (code "\t") pair s at i p (tab-inside s i t) (tab-byte s i t) takes-pair (u .taken)
         (λ qs v.
@@ -79,7 +79,7 @@ module _ (s : Bytes) (at i why : ℕ) (p : PairsTo s at why i) where
         let g = passed-stuck (code "\t") pair s at i p (tab-inside s i t) (tab-byte s i t) f in
         record { reads = pairs-as s at a ∙ g .reads; onward = g .onward; inside = g .inside }
 
-  pub pairs-took : tabbed s at ≡ true → tabbed s i ≡ false → Took pairs (every pairRanged) (every pairFew) (λ qs. Unit {0}) s at i why
+  pub pairs-took : tabbed s at ≡ true → tabbed s i ≡ false → Taken pairs (every pairRanged) (every pairFew) (λ qs. Unit {0}) s at i why
   pairs-took a t =
       let g = passed-stop (code "\t") pair s at i p (no-pair s i t) in
       record {
@@ -158,7 +158,7 @@ module _ {k : ℕ} {store : Store} {s : Bytes} {at i : ℕ} {words₀ words : Li
             let y : drop i s ≡ drop (length s) s = cc in
             omega (arith, ap length y, length-drop i s, length-drop (length s) s)
 
-    next-took : Took pair pairRanged pairFew (λ q. (r .index ≡ q .index) × Holds (q .factor) (r .terms) factorAt words′) s (i + 1) (r .end) (r .why)
+    next-took : Taken pair pairRanged pairFew (λ q. (r .index ≡ q .index) × Holds (q .factor) (r .terms) factorAt words′) s (i + 1) (r .end) (r .why)
     next-took = part-took (p .part) (λ f. clash (sym (each-stuck (code "\t") pair s i h (tab-byte s i next-tab) _ (part-stuck (p .part) f .reads)) ∙ w .left .reads))
 
     pub next-onward : i < r .end

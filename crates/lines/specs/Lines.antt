@@ -9,7 +9,7 @@ use lib.ListN.{length}
 use Rattle.ground.specs.Lists.{any}
 use Rattle.limits.specs.Verdicts.{ACCEPTED, FORM}
 use Rattle.words.specs.Parts.{Within}
-use Rattle.paper.specs.Grammar.{Bytes, got, stuck, Reader, _>>=_, _>>_, give, literal, end, LineKind, statement}
+use Rattle.paper.specs.Grammar.{Bytes, got, stuck, LineKind, wholeLine, statement}
 use Rattle.paper.specs.Statement.{Written, Pair, modulo, Statement, ring, input, goal, lin, del, ext, fields, numbersInRange, tooManyTerms}
 use Rattle.written.specs.Worded.{Holds}
 use Rattle.reader.specs.Places.{Got, Fails}
@@ -46,7 +46,7 @@ pub record Turns (reads : Statement → Type 0) (r : LineRead) : Type 0 where
   pub refused : r ≡ Refused (verdictOf (numbersInRange value) (fewInFields value))
   pub some : verdictOf (numbersInRange value) (fewInFields value) ≡ ACCEPTED → ⊥
 
-pub record Says (reads : Statement → Type 0) (s : Bytes) (words : List ℕ) (r : LineRead) : Type 0 where
+pub record Passes (reads : Statement → Type 0) (s : Bytes) (words : List ℕ) (r : LineRead) : Type 0 where
   pub value : Statement
   pub read : reads value
   pub ranged : numbersInRange value ≡ true
@@ -57,17 +57,13 @@ pub record Says (reads : Statement → Type 0) (s : Bytes) (words : List ℕ) (r
 unfoldable pub closedOf : ℕ → ℕ → ℕ → LineRead → LineRead
 closedOf n e why r = cond (ltb e n) (Refused FORM) (cond (eqb why ACCEPTED) r (Refused why))
 
--- a keyword, the fields of its kind, and nothing behind them
-abbrev pub whole : LineKind → Reader Statement
-whole k = do literal (k .0); st ← k .1; end; give st
-
 -- a line of one kind, and any line
 pub record KindIs (k : LineKind) (s : Bytes) (words words′ : List ℕ) (r : LineRead) : Type 0 where
-  pub said : Stops ((e : ℕ) × Fails (whole k) s 0 e) r
-      ⊎ (Turns (λ st. Got (whole k) s 0 st (length s)) r ⊎ Says (λ st. Got (whole k) s 0 st (length s)) s words′ r)
+  pub said : Stops ((e : ℕ) × Fails (wholeLine k) s 0 e) r
+      ⊎ (Turns (λ st. Got (wholeLine k) s 0 st (length s)) r ⊎ Passes (λ st. Got (wholeLine k) s 0 st (length s)) s words′ r)
   pub kept : Within statedAt goalAt words words′
 
 pub record LineIs (s : Bytes) (ended : Bool) (words words′ : List ℕ) (r : LineRead) : Type 0 where
   pub said : Stops ((t : Bytes) × (statement (record { content = s; ended = ended }) ≡ stuck t)) r
-      ⊎ (Turns (λ st. statement (record { content = s; ended = ended }) ≡ got st []) r ⊎ Says (λ st. statement (record { content = s; ended = ended }) ≡ got st []) s words′ r)
+      ⊎ (Turns (λ st. statement (record { content = s; ended = ended }) ≡ got st []) r ⊎ Passes (λ st. statement (record { content = s; ended = ended }) ≡ got st []) s words′ r)
   pub kept : Within statedAt goalAt words words′

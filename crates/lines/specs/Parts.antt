@@ -43,35 +43,35 @@ unfoldable pub pairFew : Pair → Bool
 pairFew q = fewTerms (q .factor)
 
 -- ---- x is read from at up to e, with its verdict, and P holds of it where nothing refuses it
-pub record Took {A : Type 0} (read : Reader A) (ranged few : A → Bool) (P : A → Type 0) (s : Bytes) (at e why : ℕ) : Type 0 where
+pub record Taken {A : Type 0} (read : Reader A) (ranged few : A → Bool) (P : A → Type 0) (s : Bytes) (at e why : ℕ) : Type 0 where
   pub value : A
   pub taken : Got read s at value e
   pub verdict : why ≡ verdictOf (ranged value) (few value)
   pub holds : why ≡ ACCEPTED → P value
 
 -- or the reader stops at e
-abbrev pub Part : {A : Type 0} → Reader A → (A → Bool) → (A → Bool) → (A → Type 0) → Bytes → ℕ → ℕ → ℕ → Type 0
-Part read ranged few P s at e why = ((why ≡ FORM) × Fails read s at e) ⊎ Took read ranged few P s at e why
+abbrev pub Piece : {A : Type 0} → Reader A → (A → Bool) → (A → Bool) → (A → Type 0) → Bytes → ℕ → ℕ → ℕ → Type 0
+Piece read ranged few P s at e why = ((why ≡ FORM) × Fails read s at e) ⊎ Taken read ranged few P s at e why
 
 -- ---- the parts, each with what the code gives of it
 abbrev pub NumberPart : Reader ℕ → (ℕ → Bool) → Bytes → ℕ → NumberRead → Type 0
-NumberPart read ranged s at r = Part read ranged always (λ n. r .value ≡ n) s at (r .end) (r .why)
+NumberPart read ranged s at r = Piece read ranged always (λ n. r .value ≡ n) s at (r .end) (r .why)
 
 pub record FieldPart (s : Bytes) (at base : ℕ) (words words′ : List ℕ) (r : FieldRead) : Type 0 where
-  pub part : Part field inRange fewTerms (λ p. Holds p (r .terms) base words′) s at (r .end) (r .why)
+  pub part : Piece field inRange fewTerms (λ p. Holds p (r .terms) base words′) s at (r .end) (r .why)
   pub kept : Within base (base + fieldTerms * termWords) words words′
 
 pub record PairPart (s : Bytes) (at : ℕ) (words words′ : List ℕ) (r : PairRead) : Type 0 where
-  pub part : Part pair pairRanged pairFew (λ q. (r .index ≡ q .index) × Holds (q .factor) (r .terms) factorAt words′) s at (r .end) (r .why)
+  pub part : Piece pair pairRanged pairFew (λ q. (r .index ≡ q .index) × Holds (q .factor) (r .terms) factorAt words′) s at (r .end) (r .why)
   pub kept : Within factorAt goalAt words words′
 
 pub record PairsPart (s : Bytes) (at : ℕ) (words words′ : List ℕ) (r : PairsRead) : Type 0 where
-  pub part : Part pairs (every pairRanged) (every pairFew) (λ qs. Unit {0}) s at (r .end) (r .why)
+  pub part : Piece pairs (every pairRanged) (every pairFew) (λ qs. Unit {0}) s at (r .end) (r .why)
   pub kept : Within factorAt goalAt words words′
 
 -- ---- a keyword before a part
-abbrev pub behind : {A : Type 0} → Bytes → Reader A → Reader A
-behind w read = λ s. next (literal w s) (λ _. read)
+abbrev pub keyed : {A : Type 0} → Bytes → Reader A → Reader A
+keyed w read = λ s. next (literal w s) (λ _. read)
 
 -- ---- the pairs qs stand from the tab at `at` to the end of the line, in range and short
 pub record PairsAt (s : Bytes) (at : ℕ) (qs : List Pair) : Type 0 where

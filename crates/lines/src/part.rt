@@ -15,9 +15,6 @@ use reader::number::Number;
 use reader::number::number_at;
 use reader::number::refused;
 
-// The words of a region for one field.
-const REGION: usize = limits::FIELD_TERMS * limits::TERM_WORDS;
-
 // A number behind a tab.
 pub(crate) struct NumberRead {
     pub value: u32,
@@ -113,7 +110,7 @@ pub(crate) fn tab_field(s: &[u8], at: usize, scratch: &mut [u64], base: usize) -
             extra: 0,
         };
     }
-    let last = base + REGION;
+    let last = base + scratch::REGION;
     read_field(
         s,
         at + 1,

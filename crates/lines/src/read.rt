@@ -6,7 +6,7 @@ ghost use lib.ListN.{length};
 ghost use Rattle.limits.specs.Limits.{greatestIndex, leastScratch};
 ghost use Rattle.paper.specs.Grammar.{number, ringLine, inputLine, goalLine, linLine, delLine, extLine};
 ghost use Rattle.paper.specs.Statement.{within};
-ghost use Rattle.lines.specs.Parts.{behind, NumberPart};
+ghost use Rattle.lines.specs.Parts.{keyed, NumberPart};
 ghost use Rattle.lines.specs.Lines.{closedOf, KindIs, LineIs};
 use super::part::NumberRead;
 use super::part::lesser;
@@ -44,7 +44,7 @@ fn closed(s: &[u8], end: usize, why: u64, read: LineRead) -> LineRead
 // The keyword w, and a number from low to high behind a tab.
 pub(crate) fn headed(s: &[u8], w: &[u8], low: u64, high: u64) -> NumberRead
     requires { ⌜ high ≤ greatestIndex ⌝ }
-    ensures { λ r. ⌜ NumberPart (behind (now (w .entry)) number) (within low high) (now (s .entry)) 0 r ⌝ }
+    ensures { λ r. ⌜ NumberPart (keyed (now (w .entry)) number) (within low high) (now (s .entry)) 0 r ⌝ }
 {
     let k = keyword(s, w);
     match k {

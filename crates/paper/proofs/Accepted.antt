@@ -13,11 +13,11 @@ use Rattle.algebra.proofs.Derivation.{Zeroed, derived-zero, derived-goal}
 use Rattle.paper.specs.Statement.{modulo, Statement, ring, forgets, fields}
 use Rattle.paper.specs.Rules.{steps, State, start, without, entries, showsAll, makesSeen, after}
 use Rattle.paper.specs.Answer.{ringIn, definedIn, inputsIn, goalIn, introducedIn}
-use Rattle.paper.proofs.Steps.{Opened, nothing, opening}
+use Rattle.paper.proofs.Course.{Opened, nothing, opening}
 use Rattle.paper.proofs.Sound.{Good, Final, final}
 
 -- the inputs of sts force its goal, and its definitions can be met, at the ring k
-pub record Sound (k : ℕ) (sts : List Statement) : Type 0 where
+pub record SoundAt (k : ℕ) (sts : List Statement) : Type 0 where
   pub goal-zero : (a : ℕ) → AllZero k a (inputsIn k sts) → value k a (goalIn k sts) ≡ 0
   pub all-zero : (a : ℕ) → AllZero k a (inputsIn k sts) → Zeroed k a (definedIn sts) (introducedIn k sts)
 
@@ -36,7 +36,7 @@ good-ring k = record {
 }
 
 sound-ring : (k : ℕ) (sts : List Statement) (e : State) → Final k (after start (ring (modulo k))) sts [] 0 [] e → e .phase ≡ steps → e .reached ≡ true
-    → Sound k (ring (modulo k) ∷ sts)
+    → SoundAt k (ring (modulo k) ∷ sts)
 unfolding inputsIn goalIn introducedIn definedIn gather after entries
 sound-ring k sts e f ph re = record {
   goal-zero = λ a z. ap (value k a) (sym aim) ∙ derived-goal k (f .good .derived) (f .good .apart) (f .good .hit re) a (f .given a tt z);
@@ -52,7 +52,7 @@ sound-ring k sts e f ph re = record {
     aim : e .goal ≡ goalIn k sts
     aim = sym (ap (λ (x : ℕ). cond (eqb x steps) (e .goal) (goalIn k [])) ph) ∙ f .aim
 
-pub sound-steps : (capacity : ℕ) {e : State} {sts : List Statement} → Opened capacity sts e → e .phase ≡ steps → e .reached ≡ true → Sound (ringIn sts) sts
+pub sound-steps : (capacity : ℕ) {e : State} {sts : List Statement} → Opened capacity sts e → e .phase ≡ steps → e .reached ≡ true → SoundAt (ringIn sts) sts
 unfolding start ringIn
 sound-steps capacity nothing ph re = absurd (omega arith)
 sound-steps capacity (opening {sts} {e} k r) ph re = sound-ring k sts e (final k capacity r [] 0 [] (good-ring k)) ph re

@@ -13,7 +13,7 @@ use Rattle.paper.specs.Statement.{modulo, Statement, ring, input, goal, 
 use Rattle.paper.specs.Rules.{Store, stored, Distinct, find, remove, storedTerms, State, start, place, entries, productCount, without, after}
 use Rattle.paper.specs.Answer.{ringIn, sumOver, named, productsIn, introducedPolynomials, deletedPolynomials, introducedTerms, deletedTerms}
 use Rattle.paper.proofs.Stands.{Stands, stands-none}
-use Rattle.paper.proofs.Steps.{withRing, by-ring, Steps, done, step, Opened, nothing, opening}
+use Rattle.paper.proofs.Course.{withRing, by-ring, Steps, done, step, Opened, nothing, opening}
 use Rattle.paper.proofs.Store.{find-new, terms-append, distinct-append, distinct-remove, find-remove, terms-remove}
 
 look : (b : Bool) (p q : Poly) → cond b p q ≡ cond (b || false) (cond b p []) q
@@ -130,15 +130,15 @@ module _ (k : ℕ) where
     carried (step {s} st q r) h c = carried r (st ∷ h) (onward s h st c (stands-none capacity s st q))
 
 -- ---- from the start
-pub record Counted (k : ℕ) (s : State) (h : List Statement) : Type 0 where
+pub record StateCounts (k : ℕ) (s : State) (h : List Statement) : Type 0 where
   pub products : s .products ≡ productsIn k h
   pub polynomials : length (s .store) + deletedPolynomials h ≡ introducedPolynomials k h
   pub terms : storedTerms (s .store) + deletedTerms k h ≡ introducedTerms k h
 
-of-carried : (k : ℕ) (s : State) (h : List Statement) → Carried k s h → Counted (ringIn h) s h
-of-carried k s h c = subst (λ (j : ℕ). Counted j s h) (sym (c .ring-in)) (record { products = c .products; polynomials = c .polynomials; terms = c .terms })
+of-carried : (k : ℕ) (s : State) (h : List Statement) → Carried k s h → StateCounts (ringIn h) s h
+of-carried k s h c = subst (λ (j : ℕ). StateCounts j s h) (sym (c .ring-in)) (record { products = c .products; polynomials = c .polynomials; terms = c .terms })
 
-counted-start : Counted (ringIn []) start []
+counted-start : StateCounts (ringIn []) start []
 unfolding start productsIn deletedPolynomials introducedPolynomials deletedTerms introducedTerms sumOver storedTerms total
 counted-start = record { products = refl; polynomials = refl; terms = refl }
 
@@ -146,6 +146,6 @@ carried-ring : (k : ℕ) → Carried k (after start (ring (modulo k))) (ring (mo
 unfolding start after without forgets entries productCount ringIn find named stored any productsIn deletedPolynomials introducedPolynomials deletedTerms introducedTerms sumOver storedTerms total
 carried-ring k = record { ringed = refl; begun = omega arith; ring-in = refl; distinct = tt; finds = λ i. refl; products = refl; polynomials = refl; terms = refl }
 
-pub counted-steps : (capacity : ℕ) {e : State} {sts : List Statement} → Opened capacity sts e → Counted (ringIn (reverseAux sts [])) e (reverseAux sts [])
+pub counted-steps : (capacity : ℕ) {e : State} {sts : List Statement} → Opened capacity sts e → StateCounts (ringIn (reverseAux sts [])) e (reverseAux sts [])
 counted-steps capacity nothing = counted-start
 counted-steps capacity (opening {sts} {e} k r) = of-carried k e (reverseAux sts (ring (modulo k) ∷ [])) (carried k capacity r (ring (modulo k) ∷ []) (carried-ring k))

@@ -1,5 +1,5 @@
 pub mod Stands
-pub mod Steps
+pub mod Course
 pub mod Zeros
 pub mod Sound
 pub mod Accepted

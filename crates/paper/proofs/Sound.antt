@@ -21,7 +21,7 @@ use Rattle.paper.specs.Statement.{Written, Pair, modulo, Statement, ring
 use Rattle.paper.specs.Rules.{inputs, steps, find, remove, State, place, entries, shows, showsAll, makesSeen, combination, holdsGoal, without, rules, after}
 use Rattle.paper.specs.Answer.{inputsIn, goalIn, introducedIn, definedIn}
 use Rattle.paper.proofs.Stands.{Stands, stands-none}
-use Rattle.paper.proofs.Steps.{withRing, by-ring, Steps, done, step}
+use Rattle.paper.proofs.Course.{withRing, by-ring, Steps, done, step}
 use Rattle.paper.proofs.Zeros.{StoreZero, zero-append, zero-remove, zero-goal, zero-stated}
 
 -- the variable that a statement defines

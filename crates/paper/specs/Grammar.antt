@@ -156,10 +156,14 @@ beginsAlike [] s = false
 beginsAlike (c ∷ w) [] = false
 beginsAlike (c ∷ w) (b ∷ s) = eqb b c
 
+-- a keyword, the fields of its kind, and nothing behind them
+abbrev pub wholeLine : LineKind → Reader Statement
+wholeLine k = do literal (k .0); st ← k .1; end; give st
+
 -- the kind whose keyword begins as the line does
 unfoldable pub oneOf : List LineKind → Reader Statement
 oneOf [] s = stuck s
-oneOf (k ∷ ks) s = let read : Read Statement = (do literal (k .0); st ← k .1; end; give st) s in cond (beginsAlike (k .0) s) read (oneOf ks s)
+oneOf (k ∷ ks) s = let read : Read Statement = wholeLine k s in cond (beginsAlike (k .0) s) read (oneOf ks s)
 
 -- a line without byte 10 stops short
 unfoldable pub statement : Line → Read Statement

@@ -22,7 +22,7 @@ use Rattle.paper.specs.Grammar.{Bytes}
 use Rattle.paper.specs.Statement.{Statement}
 use Rattle.paper.specs.Rules.{start}
 use Rattle.paper.specs.Answer.{items, Answer, run, capacityOf, unread, answer, statements, ringIn, accepted}
-use Rattle.paper.proofs.Steps.{ran, opened}
+use Rattle.paper.proofs.Course.{ran, opened}
 use Rattle.paper.proofs.Accepted.{sound-steps}
 use Rattle.paper.proofs.Counts.{counted-steps}
 use Rattle.promises.specs.Promises.{SumOfValues, ProductOfValues, OneForm, OneList, BitEverywhere, DerivedForces, DefinitionsCanBeMet, Sound, AcceptedIsSound, Counted, CountsAreSums}

@@ -7,8 +7,8 @@ use Rattle.algebra.specs.Polynomial.{bit, has, members, vars, equal, times, pro
 use Rattle.ground.specs.Lists.{every, any, total, gather}
 use Rattle.paper.specs.Rules.{first, stored, find, remove, without, storedTerms, start, place, entries, shows, showsAll, makesSeen, combination, productCount, overfull, rules, holdsGoal, after}
 use Rattle.paper.specs.Statement.{newIndex, namedIndices, forgets, fields, isRing, isIndex, isVariable, isTerm, inRange, numbersInRange, tooManyTerms, setOf, asTerm, reduced}
-use Rattle.promises.specs.Samples.{numbers, text, field, samples, AllAsSaid}
+use Rattle.promises.specs.Samples.{numbers, text, spelling, samples, AllAsSaid}
 
 pub all-as-said : AllAsSaid
-unfolding bit has members vars equal times products put insert reduce product extension every any total gather first bytes onFirst lines literal end upTo newIndex namedIndices forgets fields isDigit digits decimal sign term asWritten polynomial tab number readField pair pairs kinds beginsAlike oneOf statement isRing isIndex isVariable isTerm inRange numbersInRange tooManyTerms setOf asTerm reduced stored find remove without storedTerms start place entries shows showsAll makesSeen combination productCount overfull rules holdsGoal after indexOf judge judgeItem itemOf items report ending run capacityOf unread answer spellDigits spellNumber spellCoefficient spellTerm spell spellingRules spellRead wholeField spellField numbers text field samples
+unfolding bit has members vars equal times products put insert reduce product extension every any total gather first bytes onFirst lines literal end upTo newIndex namedIndices forgets fields isDigit digits decimal sign term asWritten polynomial tab number readField pair pairs kinds beginsAlike oneOf statement isRing isIndex isVariable isTerm inRange numbersInRange tooManyTerms setOf asTerm reduced stored find remove without storedTerms start place entries shows showsAll makesSeen combination productCount overfull rules holdsGoal after indexOf judge judgeItem itemOf items report ending run capacityOf unread answer spellDigits spellNumber spellCoefficient spellTerm spell spellingRules spellRead wholeField spellField numbers text spelling samples
 all-as-said = refl

@@ -18,8 +18,8 @@ numbers a = a .verdict ∷ a .line ∷ a .index ∷ a .products ∷ a .polynomia
 unfoldable pub text : String → List ℕ → Sample
 text s six = record { found = numbers (answer (bytes s) hostPool hostScratch); said = six }
 
-unfoldable pub field : ℕ → String → String → Sample
-field k f s =
+unfoldable pub spelling : ℕ → String → String → Sample
+spelling k f s =
     let r : Spelled = spellField (bytes f) k leastSpellingScratch lineBytes in
     record { found = r .verdict ∷ r .spelling; said = ACCEPTED ∷ bytes s }
 
@@ -30,11 +30,11 @@ samples =
     ∷ text "ring\t8\nin\t1\t-1.2 1.0.1\ngoal\t1.2 -1.0.2\n" (16 ∷ 3 ∷ 0 ∷ 0 ∷ 1 ∷ 2 ∷ [])
     ∷ text "ring\t8\nin\t1\t-1.2 1.0.1\ngoal\t1.2 -1.0.2\nlin\t2\t1.2\t1\t1.0 -1\n" (12 ∷ 4 ∷ 2 ∷ 0 ∷ 1 ∷ 2 ∷ [])
     ∷ text "" (15 ∷ 0 ∷ 0 ∷ 0 ∷ 0 ∷ 0 ∷ [])
-    ∷ field 8 "1.1.0 255.0.1" "0"
-    ∷ field 8 "128" "128"
-    ∷ field 8 "129" "-127"
-    ∷ field 1 "3.5.5" "1.5"
-    ∷ field 8 "1 1.0 1.1" "1.1 1.0 1"
+    ∷ spelling 8 "1.1.0 255.0.1" "0"
+    ∷ spelling 8 "128" "128"
+    ∷ spelling 8 "129" "-127"
+    ∷ spelling 1 "3.5.5" "1.5"
+    ∷ spelling 8 "1 1.0 1.1" "1.1 1.0 1"
     ∷ text "ring\t1\ngoal\t1\next\t1\t2\t1.0 1.1\n" (16 ∷ 3 ∷ 0 ∷ 4 ∷ 1 ∷ 3 ∷ [])
     ∷ text "ring\t2\ngoal\t1\next\t1\t2\t1.0 1.1\n" (13 ∷ 3 ∷ 1 ∷ 0 ∷ 0 ∷ 0 ∷ [])
     ∷ text "ring\t8\ngoal\t1\next\t1\t2\t1.0 1.1 -2.0.1\n" (16 ∷ 3 ∷ 0 ∷ 9 ∷ 1 ∷ 4 ∷ [])

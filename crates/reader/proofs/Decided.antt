@@ -34,7 +34,7 @@ use Rattle.reader.specs.declared.keyword.Word.{Word}
 use Rattle.reader.specs.declared.keyword.Word.the-variants.{Read, Refused as NoWord}
 use Rattle.reader.specs.declared.field.FieldRead.{FieldRead}
 use Rattle.reader.proofs.Numbers.{within-yes}
-use Rattle.reader.proofs.Ranges.{accepted}
+use Rattle.reader.proofs.Ranges.{neither}
 
 -- ---- a reader reads or stops, and at one place
 same-place : (s : Bytes) (p q : ℕ) → p ≤ length s → q ≤ length s → drop p s ≡ drop q s → p ≡ q
@@ -105,7 +105,7 @@ one-word read s at (NoWord v d) (NoWord w e) x y = ap₂ (λ i j. NoWord i j) (x
 -- an accepted field has few enough terms
 few : {greatest : ℕ} {s : Bytes} {at : ℕ} {out r : List ℕ} {f : FieldRead} → FieldAt greatest s at out r f → f .why ≡ ACCEPTED → f .terms ≤ fieldTerms
 unfolding tooManyTerms
-few {greatest} x a = omega (arith, x .terms, ltb-false fieldTerms (length (x .value)) (accepted (allFine (fieldMarks greatest (x .value))) (ltb fieldTerms (length (x .value))) (sym (x .verdict) ∙ a) .1))
+few {greatest} x a = omega (arith, x .terms, ltb-false fieldTerms (length (x .value)) (neither (allFine (fieldMarks greatest (x .value))) (ltb fieldTerms (length (x .value))) (sym (x .verdict) ∙ a) .1))
 
 -- ---- `read_field`: of a refused one the words of the most terms of a field are not decided
 module _ (greatest : ℕ) (s : Bytes) (at : ℕ) (out r q : List ℕ) (f g : FieldRead) where

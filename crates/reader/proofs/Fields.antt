@@ -18,7 +18,7 @@ use Rattle.ground.proofs.Tests.{bool-ext, split, and-left, and-right, and-both,
 use Rattle.limits.specs.Limits.{setWords, variables}
 use Rattle.limits.specs.Verdicts.{ACCEPTED, FORM, NUMBER}
 use Rattle.algebra.proofs.Unions.{or-assoc}
-use Rattle.words.specs.Words.{number}
+use Rattle.words.specs.Words.{numberOf}
 use Rattle.terms.specs.Terms.{termOf}
 use Rattle.written.specs.Worded.{signedWord, wordedTerm}
 use Rattle.paper.specs.Grammar.{Bytes, got, Reader, each, decimal, sign, term, moreVariables}
@@ -36,7 +36,7 @@ use Rattle.reader.specs.declared.number.Refusal.{Refusal}
 use Rattle.reader.proofs.Numbers.{within-yes, RefusedAs}
 use Rattle.reader.proofs.Widths.{decimal-ends}
 use Rattle.reader.proofs.Marks.{told-none, told-then, told-fine, told-out, told-read, told-lead, both-accepted, mark-fine, mark-outside, gather-last}
-use Rattle.reader.proofs.Following.{got-then, got-give, fails-then, fails-first, Passed, passed-none, passed-more, passed-stuck}
+use Rattle.reader.proofs.Following.{got-then, got-give, fails-then, fails-first, ItemsUpTo, passed-none, passed-more, passed-stuck}
 
 -- ---- a part: it stops, or it is read
 module _ {A : Type 0} {read : Reader A} {marks : A → List Mark} {P : A → Type 0} {s : Bytes} {at e why byte : ℕ} (p : Part read marks P s at e why byte) where
@@ -144,10 +144,10 @@ set-of-more (u ∷ vs) v =
 
 -- variables stand from at up to i
 abbrev pub VariablesTo : Bytes → ℕ → List ℕ → ℕ → ℕ → ℕ → Type 0
-VariablesTo s at set why byte i = Passed (code ".") decimal (λ vs. Told (variableMarks vs) at i why byte × (why ≡ ACCEPTED → number set ≡ setOf vs)) s at i
+VariablesTo s at set why byte i = ItemsUpTo (code ".") decimal (λ vs. Told (variableMarks vs) at i why byte × (why ≡ ACCEPTED → numberOf set ≡ setOf vs)) s at i
 
 pub variables-none : (s : Bytes) (at : ℕ) → at ≤ length s → VariablesTo s at (replicate setWords 0) ACCEPTED 0 at
-unfolding variableMarks gather number setOf
+unfolding variableMarks gather numberOf setOf
 variables-none s at h = passed-none (code ".") decimal s at h (told-none at, λ e. refl)
 
 -- the marks with one variable more, behind a dot
@@ -157,7 +157,7 @@ unfolding variableMarks
 one-variable vs v t = rw (gather-last (λ v. mark isVariable 1 v ∷ []) vs v, ← variable-mark v) t
 
 module _ (s : Bytes) (at i why byte : ℕ) (set : List ℕ) (p : VariablesTo s at set why byte i) (here : standsAt s i (code ".") ≡ true) where
-  pub variables-more : {v e : ℕ} (set′ : List ℕ) → InRange decimal 0 (variables - 1) s (i + 1) v e → number set′ ≡ bitOr (2 ^ v) (number set)
+  pub variables-more : {v e : ℕ} (set′ : List ℕ) → InRange decimal 0 (variables - 1) s (i + 1) v e → numberOf set′ ≡ bitOr (2 ^ v) (numberOf set)
       → VariablesTo s at set′ why byte e
   variables-more {v} set′ r q =
       passed-more (code ".") decimal s at i p (stands s i (code ".") here .0) (stands s i (code ".") here .1) takes-decimal (r .taken)
@@ -235,7 +235,7 @@ module _ (greatest : ℕ) (s : Bytes) (at : ℕ) (m : Magnitude) (h : MagnitudeA
       unfolding term
       names-stuck f = fails-then sign _ (h .signed) (fails-then decimal _ (part-took (h .size) n .taken) (fails-first moreVariables _ (part-stuck k f)))
 
-      pub term-took : (vs .why ≡ FORM → ⊥) → (words : List ℕ) (why byte : ℕ) → termOf words ≡ record { set = number (vs .set); coef = m .coefficient }
+      pub term-took : (vs .why ≡ FORM → ⊥) → (words : List ℕ) (why byte : ℕ) → termOf words ≡ record { set = numberOf (vs .set); coef = m .coefficient }
           → why ≡ firstOf (m .why) (vs .why) → byte ≡ firstOf (m .byte) (vs .byte) → TermAt greatest s at (record { term = words; end = vs .end; why = why; byte = byte })
       unfolding termMarks wordedTerm
       term-took f words why byte q ew eb =

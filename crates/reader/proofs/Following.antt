@@ -48,7 +48,7 @@ next-same (got x s) f g h = h x s
 next-same (stuck s) f g h = refl
 
 -- some items stand from at up to i, P holds of them, and what is left to read is at i
-pub record Passed {A : Type 0} (c : ℕ) (item : Reader A) (P : List A → Type 0) (s : Bytes) (at i : ℕ) : Type 0 where
+pub record ItemsUpTo {A : Type 0} (c : ℕ) (item : Reader A) (P : List A → Type 0) (s : Bytes) (at i : ℕ) : Type 0 where
   pub items : List A
   pub reads : each c item (drop at s) ≡ next (each c item (drop i s)) (λ xs r. got (items ++ xs) r)
   pub onward : at ≤ i
@@ -56,12 +56,12 @@ pub record Passed {A : Type 0} (c : ℕ) (item : Reader A) (P : List A → Type 
   pub holds : P items
 
 module _ {A : Type 0} (c : ℕ) (item : Reader A) (s : Bytes) (at : ℕ) where
-  pub passed-none : {P : List A → Type 0} → at ≤ length s → P [] → Passed c item P s at at
+  pub passed-none : {P : List A → Type 0} → at ≤ length s → P [] → ItemsUpTo c item P s at at
   passed-none h p = record { items = []; reads = next-give (each c item (drop at s)); onward = omega arith; inside = h; holds = p }
 
-  module _ {P : List A → Type 0} (i : ℕ) (p : Passed c item P s at i) (h : i < length s) (b : getD s i 0 ≡ c) where
+  module _ {P : List A → Type 0} (i : ℕ) (p : ItemsUpTo c item P s at i) (h : i < length s) (b : getD s i 0 ≡ c) where
     pub passed-more : {Q : List A → Type 0} {allowed : ℕ → Bool} {n : ℕ} {x : A} {e : ℕ} → Takes allowed n item → Got item s (i + 1) x e
-        → ((xs : List A) → P xs → Q (xs ++ (x ∷ []))) → Passed c item Q s at e
+        → ((xs : List A) → P xs → Q (xs ++ (x ∷ []))) → ItemsUpTo c item Q s at e
     passed-more {Q} {allowed} {n} {x} {e} t g f =
         let a = p .onward in
         let o = g .onward in
@@ -88,7 +88,7 @@ module _ {A : Type 0} (c : ℕ) (item : Reader A) (s : Bytes) (at : ℕ) where
           inside = g .inside;
         }
 
-  pub passed-stop : {P : List A → Type 0} (i : ℕ) (p : Passed c item P s at i) → each c item (drop i s) ≡ got [] (drop i s) → Got (each c item) s at (p .items) i
+  pub passed-stop : {P : List A → Type 0} (i : ℕ) (p : ItemsUpTo c item P s at i) → each c item (drop i s) ≡ got [] (drop i s) → Got (each c item) s at (p .items) i
   passed-stop i p e =
       record {
         reads = p .reads ∙ ap (λ (r : Read (List A)). next r (λ xs r. got (p .items ++ xs) r)) e ∙ ap (λ (l : List A). got l (drop i s)) (append-nil (p .items));
@@ -98,6 +98,6 @@ module _ {A : Type 0} (c : ℕ) (item : Reader A) (s : Bytes) (at : ℕ) where
 
 -- the items all told
 pub passed-took : {A : Type 0} (c : ℕ) (item : Reader A) (marks : List A → List Mark) {P : List A → Type 0} (s : Bytes) (at i why byte : ℕ)
-    → Passed c item (λ xs. Told (marks xs) at i why byte × P xs) s at i → each c item (drop i s) ≡ got [] (drop i s) → Took (each c item) marks P s at i why byte
+    → ItemsUpTo c item (λ xs. Told (marks xs) at i why byte × P xs) s at i → each c item (drop i s) ≡ got [] (drop i s) → Took (each c item) marks P s at i why byte
 passed-took c item marks s at i why byte p e =
     record { value = p .items; taken = passed-stop c item s at i p e; told = p .holds .0; holds = p .holds .1 }

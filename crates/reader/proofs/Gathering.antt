@@ -29,7 +29,7 @@ use Rattle.reader.specs.Marks.{span, variableMarks, termMarks, moreMarks
 use Rattle.reader.specs.Fields.{standsAt, firstOf, Told, TermAt, PutBehind, moreTooMany, RestOf}
 use Rattle.reader.specs.declared.term.TermRead.{TermRead}
 use Rattle.reader.proofs.Marks.{told-none, told-then, told-lead, both-accepted, gather-last}
-use Rattle.reader.proofs.Following.{Passed, passed-none, passed-more, passed-stuck}
+use Rattle.reader.proofs.Following.{ItemsUpTo, passed-none, passed-more, passed-stuck}
 use Rattle.reader.proofs.Fields.{stands, part-stuck, part-took}
 
 -- ---- one term more
@@ -106,7 +106,7 @@ term-behind greatest t h = told-lead (within 1 greatest) (0 + cond (t .negative)
 -- terms stand from at up to i, and are put behind the first
 abbrev pub TermsTo : ℕ → Bytes → ℕ → List ℕ → List ℕ → ℕ → ℕ → ℕ → ℕ → ℕ → Type 0
 TermsTo greatest s at out out′ n why byte extra i =
-    Passed (code " ") term (λ ts. Told (moreMarks greatest ts) at i why byte × RestOf greatest at out out′ n why extra ts) s at i
+    ItemsUpTo (code " ") term (λ ts. Told (moreMarks greatest ts) at i why byte × RestOf greatest at out out′ n why extra ts) s at i
 
 module _ (greatest : ℕ) (s : Bytes) (at : ℕ) (out : List ℕ) where
   pub terms-none : at ≤ length s → TermsTo greatest s at out out 1 ACCEPTED 0 0 at

@@ -36,14 +36,14 @@ field-fine [] = refl
 field-fine (t ∷ ts) = every-append (λ m. m .fine) (termMarks greatestMagnitude 0 t) (moreMarks greatestMagnitude ts) ∙ ap₂ _&&_ (term-fine 0 t) (terms-fine ts)
 
 -- neither NUMBER nor TERMS
-pub accepted : (a b : Bool) → first ((NUMBER, not a) ∷ (TERMS, b) ∷ []) ≡ ACCEPTED → (a ≡ true) × (b ≡ false)
+pub neither : (a b : Bool) → first ((NUMBER, not a) ∷ (TERMS, b) ∷ []) ≡ ACCEPTED → (a ≡ true) × (b ≡ false)
 unfolding first
-accepted true true e = absurd (let z : ⊥ = omega arith in z)
-accepted true false e = (refl, refl)
-accepted false b e = absurd (let z : ⊥ = omega arith in z)
+neither true true e = absurd (let z : ⊥ = omega arith in z)
+neither true false e = (refl, refl)
+neither false b e = absurd (let z : ⊥ = omega arith in z)
 
 pub field-holds : {s : Bytes} {at : ℕ} {out out′ : List ℕ} {r : FieldRead} (f : FieldAt greatestMagnitude s at out out′ r) → r .why ≡ ACCEPTED
     → Holds (f .value) (r .terms) 0 out′
 field-holds f a =
-    let w = accepted (allFine (fieldMarks greatestMagnitude (f .value))) (tooManyTerms (f .value)) (sym (f .verdict) ∙ a) in
+    let w = neither (allFine (fieldMarks greatestMagnitude (f .value))) (tooManyTerms (f .value)) (sym (f .verdict) ∙ a) in
     record { run = f .run a; terms = f .terms; ranged = sym (field-fine (f .value)) ∙ w .0; short = w .1 }

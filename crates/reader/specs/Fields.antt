@@ -9,7 +9,7 @@ use lib.ListN.{length, take, getD}
 use Rattle.limits.specs.Limits.{fieldTerms, termWords}
 use Rattle.limits.specs.Verdicts.{ACCEPTED, FORM, NUMBER, TERMS}
 use Rattle.words.specs.Parts.{Within}
-use Rattle.words.specs.Words.{number}
+use Rattle.words.specs.Words.{numberOf}
 use Rattle.terms.specs.Terms.{termOf, decode}
 use Rattle.paper.specs.Grammar.{Bytes, Reader, decimal, sign, term, polynomial, moreVariables, moreTerms}
 use Rattle.paper.specs.Statement.{WrittenTerm, Written, within, tooManyTerms, setOf}
@@ -50,7 +50,7 @@ Part read marks P s at e why byte = ((why ≡ FORM) × Fails read s at e) ⊎ To
 
 -- ---- parts of a field
 abbrev pub VariablesAt : Bytes → ℕ → Variables → Type 0
-VariablesAt s at r = Part moreVariables variableMarks (λ vs. r .why ≡ ACCEPTED → number (r .set) ≡ setOf vs) s at (r .end) (r .why) (r .byte)
+VariablesAt s at r = Part moreVariables variableMarks (λ vs. r .why ≡ ACCEPTED → numberOf (r .set) ≡ setOf vs) s at (r .end) (r .why) (r .byte)
 
 -- a sign or none, and a magnitude behind it
 pub record MagnitudeAt (greatest : ℕ) (s : Bytes) (at : ℕ) (r : Magnitude) : Type 0 where

@@ -6,7 +6,7 @@ pub mod Heaps
 pub mod Sifting
 pub mod Draining
 pub mod Sliding
-pub mod Places
+pub mod Picked
 pub mod Passes
 pub mod Gathering
 pub mod Merging

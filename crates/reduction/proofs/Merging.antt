@@ -15,7 +15,7 @@ use Rattle.words.proofs.Parts.{within-refl, within-trans, within-wider, above-k
 use Rattle.terms.specs.Terms.{termOf, decode, Leaves}
 use Rattle.terms.proofs.Decode.{decode-length, decode-rest, decode-above, behind-within, decode-behind}
 use Rattle.reduction.specs.Order.{setAt, Falls}
-use Rattle.reduction.specs.Steps.{Sorted}
+use Rattle.reduction.specs.Reducing.{Sorted}
 use Rattle.reduction.specs.Places.{Descends, gatheredTo, gathered}
 use Rattle.reduction.proofs.Reordered.{reduce-order}
 use Rattle.reduction.proofs.Arranged.{set-read}
@@ -133,8 +133,8 @@ module _ {k n : ℕ} {s x t : List ℕ} {c left i : ℕ} (a : Summing k n s x c 
   }
 
 -- sorted, then merged
-pub reduced : (k : ℕ) {n m : ℕ} {s x r : List ℕ} → Sorted n s x → Leaves n (reduce k (decode n x)) x r m → Leaves n (reduce k (decode n s)) s r m
-reduced k {n} {m} {s} {x} a b = record {
+pub reduced-after : (k : ℕ) {n m : ℕ} {s x r : List ℕ} → Sorted n s x → Leaves n (reduce k (decode n x)) x r m → Leaves n (reduce k (decode n s)) s r m
+reduced-after k {n} {m} {s} {x} a b = record {
   terms = b .terms ∙ sym (reduce-order k (decode n s) (decode n x) (a .arranged .same));
   few = b .few;
   within = within-trans (a .arranged .within) (b .within);

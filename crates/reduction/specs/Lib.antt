@@ -1,3 +1,3 @@
 pub mod Order
-pub mod Steps
+pub mod Reducing
 pub mod Places

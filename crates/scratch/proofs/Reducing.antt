@@ -17,7 +17,7 @@ use Rattle.limits.specs.Limits.{fieldTerms, setWords, termWords}
 use Rattle.algebra.specs.Polynomial.{Term, Poly, sumIf, vars, reduce, extension}
 use Rattle.algebra.proofs.Values.{keep, sumIf-append}
 use Rattle.algebra.proofs.Sums.{reduce-sums}
-use Rattle.words.specs.Words.{number}
+use Rattle.words.specs.Words.{numberOf}
 use Rattle.words.proofs.Wrap.{same-negative}
 use Rattle.terms.specs.Terms.{termOf, decode, Leaves}
 use Rattle.terms.proofs.Decode.{decode-part, behind-within, decode-behind}
@@ -68,7 +68,7 @@ module _ (k base n m : ℕ) (s y : List ℕ) (kk : k ≤ 64) (l : base + fieldTe
     pub reduced-room : m * termWords ≤ length (part base (length x - base) x)
     reduced-room = let r = reduced-run in omega (arith, r .few, r .within .same, length-part base (length x - base) x (omega (arith, r .within .same)))
 
-    pub reduced-field : (set : List ℕ) → number set ≡ vars (decode m (part base (length x - base) x)) → ReducedAt k w base s x (record { terms = m; shown = set })
+    pub reduced-field : (set : List ℕ) → numberOf set ≡ vars (decode m (part base (length x - base) x)) → ReducedAt k w base s x (record { terms = m; shown = set })
     unfolding shows
     reduced-field set v =
         let r = reduced-run in
@@ -89,11 +89,11 @@ last-first k h m p = reduce-sums k (p ++ (record { set = m; coef = 2 ^ 64 - 1 } 
         ⊳ same-add {a = keep (f m) (2 ^ 64 - 1)} {c = sumIf f p} (one (f m)) same-refl
 
 -- the term t written behind p, and the stated region reduced
-pub defined : (k v n m a : ℕ) (s t x y : List ℕ) → k ≤ 64 → n < fieldTerms → factorAt ≤ length s → a ≡ bitOr (2 ^ v) (number (replicate setWords 0))
+pub defined : (k v n m a : ℕ) (s t x y : List ℕ) → k ≤ 64 → n < fieldTerms → factorAt ≤ length s → a ≡ bitOr (2 ^ v) (numberOf (replicate setWords 0))
     → length t ≡ termWords → termOf t ≡ record { set = a; coef = 2 ^ 64 - 1 } → x ≡ paste s (statedAt + n * termWords) t termWords
     → Leaves (n + 1) (reduce k (decode (n + 1) (part statedAt (factorAt - statedAt) x))) (part statedAt (factorAt - statedAt) x) y m
     → RunAt statedAt (extension k v (decode n (drop statedAt s))) s (putMid statedAt (factorAt - statedAt) x y) m
-unfolding extension number
+unfolding extension numberOf
 defined k v n m a s t x y h hn l ea lt et ex c = record {
   run = lent-run statedAt factorAt (n + 1) m _ x y (omega arith) long room c ∙ ap (reduce k) terms ∙ last-first k h (2 ^ v) (decode n (drop statedAt s));
   few = omega (arith, c .few);

@@ -6,7 +6,7 @@ use lib.ListN.{length, drop}
 use Rattle.limits.specs.Limits.{fieldTerms, lineProducts, termWords}
 use Rattle.algebra.specs.Polynomial.{Poly}
 use Rattle.words.specs.Parts.{part, Within}
-use Rattle.words.specs.Words.{number}
+use Rattle.words.specs.Words.{numberOf}
 use Rattle.terms.specs.Terms.{decode}
 use Rattle.paper.specs.Statement.{Written, reduced}
 use Rattle.paper.specs.Rules.{shows}
@@ -31,7 +31,7 @@ pub record RunAt (base : ℕ) (p : Poly) (s r : List ℕ) (n : ℕ) : Type 0 whe
 -- the field w, reduced at k, in the region from word base on, and the variables that it makes seen
 pub record ReducedAt (k : ℕ) (w : Written) (base : ℕ) (s r : List ℕ) (f : Reduced) : Type 0 where
   pub at : RunAt base (reduced k w) s r (f .terms)
-  pub shown : number (f .shown) ≡ shows k w
+  pub shown : numberOf (f .shown) ≡ shows k w
 
 -- the stated region, and all from the goal's on, are as they were
 pub record Kept (s r : List ℕ) : Type 0 where

@@ -17,7 +17,7 @@ use table::Starts;
 use words::Set;
 
 // The words of a region for one field.
-const REGION: usize = limits::FIELD_TERMS * limits::TERM_WORDS;
+pub const REGION: usize = limits::FIELD_TERMS * limits::TERM_WORDS;
 
 // The words at which the regions behind the products begin.
 pub const STATED: usize = limits::LINE_PRODUCTS * limits::TERM_WORDS;

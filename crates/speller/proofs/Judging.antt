@@ -19,7 +19,7 @@ use Rattle.reader.specs.Fields.{FieldAt, FieldIs}
 use Rattle.reader.specs.declared.field.FieldRead.{FieldRead}
 use Rattle.reader.proofs.Numbers.{within-yes, within-below, within-above}
 use Rattle.reader.proofs.Ranges.{field-fine, field-holds}
-use Rattle.speller.specs.Spells.{fitted, Accepts, Judged}
+use Rattle.speller.specs.Spells.{fitted, Accepts, FieldJudged}
 
 -- ---- k
 module _ (k : ℕ) where
@@ -74,11 +74,11 @@ not-form true b e = omega arith
 not-form false true e = omega arith
 not-form false false e = omega arith
 
-refused-as : {field : Bytes} {k : ℕ} {words : List ℕ} {n : ℕ} (v : ℕ) → 0 < v → ((room : ℕ) → spellRead k room (wholeField field) ≡ refuse v) → Judged field k words n v
+refused-as : {field : Bytes} {k : ℕ} {words : List ℕ} {n : ℕ} (v : ℕ) → 0 < v → ((room : ℕ) → spellRead k room (wholeField field) ≡ refuse v) → FieldJudged field k words n v
 refused-as v l e = record { refused = λ n. e; accepted = λ z. absurd (let y : ⊥ = omega arith in y) }
 
 module _ {field : Bytes} {s r : List ℕ} {f : FieldRead} (h : FieldIs greatestMagnitude field 0 s r f) where
-  pub judged-stuck : {k : ℕ} → f .why ≡ FORM → Judged field k r (f .terms) (f .why)
+  pub judged-stuck : {k : ℕ} → f .why ≡ FORM → FieldJudged field k r (f .terms) (f .why)
   unfolding spellRead
   judged-stuck {k} e =
       refused-as (f .why) (omega arith)
@@ -89,7 +89,7 @@ module _ {field : Bytes} {s r : List ℕ} {f : FieldRead} (h : FieldIs greatestM
     took : FieldAt greatestMagnitude field 0 s r f
     took = ⊎-elim (λ x. absurd (n (ap (λ (g : FieldRead). g .why) (x .gives)))) (λ x. x) (h .said)
 
-    pub judged-some : {k : ℕ} → (f .end ≡ length field → ⊥) → Judged field k r (f .terms) FORM
+    pub judged-some : {k : ℕ} → (f .end ≡ length field → ⊥) → FieldJudged field k r (f .terms) FORM
     unfolding spellRead
     judged-some {k} e =
         refused-as FORM (omega arith)
@@ -102,11 +102,11 @@ module _ {field : Bytes} {s r : List ℕ} {f : FieldRead} (h : FieldIs greatestM
       whole : (k room : ℕ) → spellRead k room (wholeField field) ≡ spellRead k room (got (took .value) [])
       whole k room = ap (spellRead k room) (whole-end field (took .value) ended)
 
-      pub judged-ring : {k : ℕ} → isRing (modulo k) ≡ false → Judged field k r (f .terms) NUMBER
+      pub judged-ring : {k : ℕ} → isRing (modulo k) ≡ false → FieldJudged field k r (f .terms) NUMBER
       judged-ring {k} g =
           refused-as NUMBER (omega arith) (λ room. whole k room ∙ request-number k room (took .value) (ap (λ (x : Bool). x && inRange (took .value)) g))
 
-      pub judged-read : {k : ℕ} → isRing (modulo k) ≡ true → Judged field k r (f .terms) (f .why)
+      pub judged-read : {k : ℕ} → isRing (modulo k) ≡ true → FieldJudged field k r (f .terms) (f .why)
       unfolding first
       judged-read {k} g = record {
         refused = λ z room. whole k room ∙ verdict room _ _ (sym (field-fine (took .value))) refl (λ y. z (took .verdict ∙ y)) ∙ ap refuse (sym (took .verdict));

@@ -24,8 +24,8 @@ pub record Spells (field : Bytes) (k : ℕ) (scratch : List ℕ) (out : Bytes) (
   pub cleared : scratch′ ≡ scratchAfter (spellField field k (length scratch) (length out) .verdict) scratch
 
 -- two results that it allows are one
-abbrev pub Decided : Type 0
-Decided = (field : Bytes) (k : ℕ) (scratch : List ℕ) (out : Bytes) (r q : Answer) (scratch′ scratch″ : List ℕ) (out′ out″ : Bytes)
+abbrev pub SpellDecided : Type 0
+SpellDecided = (field : Bytes) (k : ℕ) (scratch : List ℕ) (out : Bytes) (r q : Answer) (scratch′ scratch″ : List ℕ) (out′ out″ : Bytes)
     → Spells field k scratch out r scratch′ out′ → Spells field k scratch out q scratch″ out″ → (r ≡ q) × (scratch′ ≡ scratch″) × (out′ ≡ out″)
 
 -- ---- its steps
@@ -42,6 +42,6 @@ pub record Accepts (field : Bytes) (k : ℕ) : Type 0 where
   pub ring : isRing (modulo k) ≡ true
 
 -- v is the verdict before any room is looked at; an accepted field stands in the n terms at the front of the words
-pub record Judged (field : Bytes) (k : ℕ) (words : List ℕ) (n v : ℕ) : Type 0 where
+pub record FieldJudged (field : Bytes) (k : ℕ) (words : List ℕ) (n v : ℕ) : Type 0 where
   pub refused : (v ≡ ACCEPTED → ⊥) → (room : ℕ) → spellRead k room (wholeField field) ≡ refuse v
   pub accepted : v ≡ ACCEPTED → (a : Accepts field k) × Holds (a .value) n 0 words

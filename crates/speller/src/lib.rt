@@ -8,7 +8,7 @@ ghost use Rattle.algebra.specs.Polynomial.{reduce};
 ghost use Rattle.terms.specs.Terms.{decode};
 ghost use Rattle.paper.specs.Spelling.{spell, spellRead, wholeField};
 ghost use Rattle.reader.specs.Fields.{FieldIs};
-ghost use Rattle.speller.specs.Spells.{Gives, Spells, fitted, Judged};
+ghost use Rattle.speller.specs.Spells.{Gives, Spells, fitted, FieldJudged};
 use reader::field::FieldRead;
 use reader::field::read_field;
 
@@ -30,7 +30,7 @@ fn refused(verdict: u64) -> Spelled
 
 // FORM, NUMBER or TERMS for the field that was read as f, at k, or ACCEPTED.
 fn judge(field: &[u8], k: u64, f: FieldRead) -> u64
-    ensures { λ v. ⌜ ((s r : List ℕ) → FieldIs greatestMagnitude (now (field .entry)) 0 s r f → Judged (now (field .entry)) k r (f .terms) v) ⌝ }
+    ensures { λ v. ⌜ ((s r : List ℕ) → FieldIs greatestMagnitude (now (field .entry)) 0 s r f → FieldJudged (now (field .entry)) k r (f .terms) v) ⌝ }
 {
     if f.why == limits::FORM {
         return f.why;
@@ -58,7 +58,7 @@ fn write_reduced(s: &mut [u64], n: usize, k: u32, out: &mut [u8]) -> Spelled
     }
     Spelled {
         verdict: limits::ACCEPTED,
-        written: writer::write::write_run(out, s, m, k),
+        written: writer::write::write_run(out, 0, s, m, k),
     }
 }
 

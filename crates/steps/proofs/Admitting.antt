@@ -9,7 +9,7 @@ use borrow.Author.Tests.{eqb-true, not-false}
 use Rattle.limits.specs.Verdicts.{ORDER, TAKEN}
 use Rattle.paper.specs.Rules.{first, stored}
 use Rattle.table.specs.Table.{storeOfColumns}
-use Rattle.table.specs.Steps.{Absent, FirstAt}
+use Rattle.table.specs.Columns.{Absent, FirstAt}
 use Rattle.table.proofs.Laws.{absent-stored, found-stored}
 use Rattle.sums.proofs.Rows.{first-open}
 use Rattle.steps.specs.Parts.{admitRows}

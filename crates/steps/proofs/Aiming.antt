@@ -9,7 +9,7 @@ use lib.ListN.{length, drop}
 use Rattle.limits.specs.Verdicts.{ORDER}
 use Rattle.algebra.specs.Polynomial.{Poly}
 use Rattle.words.specs.Parts.{part}
-use Rattle.words.specs.Words.{number}
+use Rattle.words.specs.Words.{numberOf}
 use Rattle.terms.specs.Terms.{decode}
 use Rattle.terms.proofs.Decode.{decode-part}
 use Rattle.paper.specs.Statement.{Written, modulo, goal, reduced}
@@ -34,7 +34,7 @@ module _ {capacity : ℕ} {s : State} {pool scratch : List ℕ} {n : ℕ} {p : W
   -- the field reduced, and copied to the goal's region
   pub goal-stands : {x scratch′ seen : List ℕ} {reached : Bool} {f : Reduced} → Room capacity s pool scratch → s .phase ≡ inputs
       → ReducedAt (s .ring) p statedAt scratch x f → RunAt goalAt (decode (f .terms) (drop statedAt x)) x scratch′ (f .terms)
-      → number seen ≡ bitOr (number (f .shown)) (number (s .seen))
+      → numberOf seen ≡ bitOr (numberOf (f .shown)) (numberOf (s .seen))
       → reached ≡ holdsGoal (decode (f .terms) (part goalAt (length scratch′ - goalAt) scratch′)) (storeOf (s .table) pool)
       → {r : Step} → (r .verdict ≡ 0) × (r .state ≡ record {
         phase = steps;
@@ -52,7 +52,7 @@ module _ {capacity : ℕ} {s : State} {pool scratch : List ℕ} {n : ℕ} {p : W
       let o = room .ready in
       let l : length scratch′ ≡ length scratch = g .within .same ∙ d .at .within .same in
       let same : decode (f .terms) (drop goalAt scratch′) ≡ reduced (s .ring) p = g .run ∙ d .at .run in
-      let seen-too : number seen ≡ bitOr (shows (s .ring) p) (number (s .seen)) = u ∙ ap (λ (m : ℕ). bitOr m (number (s .seen))) (d .shown) in
+      let seen-too : numberOf seen ≡ bitOr (shows (s .ring) p) (numberOf (s .seen)) = u ∙ ap (λ (m : ℕ). bitOr m (numberOf (s .seen))) (d .shown) in
       let reached-too : reached ≡ holdsGoal (reduced (s .ring) p) (storeOf (s .table) pool)
       = b ∙ ap (λ (y : Poly). holdsGoal y (storeOf (s .table) pool)) (decode-part (f .terms) goalAt (length scratch′ - goalAt) scratch′ (omega (arith, d .at .few, l, o .room)) ∙ same) in
       told v (record {

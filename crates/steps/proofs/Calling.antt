@@ -6,7 +6,7 @@ use native.Mathlib.Omega.{arith}
 use lib.ListN.{length, drop}
 use Rattle.terms.specs.Terms.{decode}
 use Rattle.paper.specs.Statement.{modulo}
-use Rattle.words.specs.Words.{number}
+use Rattle.words.specs.Words.{numberOf}
 use Rattle.table.specs.Table.{storeOf}
 use Rattle.scratch.specs.Scratch.{goalAt}
 use Rattle.sums.specs.Sums.{PoolHolds}
@@ -39,7 +39,7 @@ state-kept s pool scratch scratch′ e = ap (λ (l : List ℕ). record {
   phase = s .phase;
   ring = modulo (s .ring);
   store = storeOf (s .table) pool;
-  seen = number (s .seen);
+  seen = numberOf (s .seen);
   goal = decode (s .«goal_terms») l;
   reached = s .reached;
   products = s .products;

@@ -14,7 +14,7 @@ use Rattle.limits.specs.Limits.{greatestRing, setWords, lineProducts}
 use Rattle.limits.specs.Verdicts.{SEEN, PRODUCTS, MISMATCH, NOTBIT}
 use Rattle.algebra.specs.Polynomial.{Poly, has, equal, reduce, product, extension}
 use Rattle.algebra.proofs.Unions.{or-assoc}
-use Rattle.words.specs.Words.{number}
+use Rattle.words.specs.Words.{numberOf}
 use Rattle.terms.specs.Terms.{decode}
 use Rattle.terms.proofs.Decode.{decode-length, decode-above, decode-below}
 use Rattle.terms.proofs.Rounding.{reduce-rounded}
@@ -43,8 +43,8 @@ refused {rows} {q} {made} {shown} {s} {r} why l e g h u = subst (CandidateIs row
 })
 
 -- ---- in
-pub input-candidate : {k : ℕ} {p : Written} {f : Reduced} {s x : List ℕ} (seen all : List ℕ) → ReducedAt k p statedAt s x f → number all ≡ bitOr (number (f .shown)) (number seen)
-    → CandidateIs [] (reduced k p) 0 (bitOr (shows k p) (number seen)) s x (record { verdict = 0; terms = f .terms; products = 0; seen = all })
+pub input-candidate : {k : ℕ} {p : Written} {f : Reduced} {s x : List ℕ} (seen all : List ℕ) → ReducedAt k p statedAt s x f → numberOf all ≡ bitOr (numberOf (f .shown)) (numberOf seen)
+    → CandidateIs [] (reduced k p) 0 (bitOr (shows k p) (numberOf seen)) s x (record { verdict = 0; terms = f .terms; products = 0; seen = all })
 unfolding first
 input-candidate {s = s} {x} seen all d u = record {
   verdict = refl;
@@ -52,7 +52,7 @@ input-candidate {s = s} {x} seen all d u = record {
   few = λ _. d .at .few;
   count = λ _. refl;
   most = λ _. omega arith;
-  seen = λ _. u ∙ ap (λ (m : ℕ). bitOr m (number seen)) (d .shown);
+  seen = λ _. u ∙ ap (λ (m : ℕ). bitOr m (numberOf seen)) (d .shown);
   goal = drop-more factorAt goalAt s x (omega arith) (d .at .within .after);
   same = d .at .within .same;
 }
@@ -61,14 +61,14 @@ input-candidate {s = s} {x} seen all d u = record {
 module _ (k v : ℕ) (seen : List ℕ) {p : Written} {f : Reduced} {s x : List ℕ} (d : ReducedAt k p statedAt s x f) where
   abbrev Extending : List ℕ → Candidate → Type 0
   Extending r c =
-      CandidateIs (extRows k (number seen) v p) (extension k v (reduced k p)) (length (reduced k p) * length (reduced k p)) (bitOr (bitOr (2 ^ v) (shows k p)) (number seen)) s r c
+      CandidateIs (extRows k (numberOf seen) v p) (extension k v (reduced k p)) (length (reduced k p) * length (reduced k p)) (bitOr (bitOr (2 ^ v) (shows k p)) (numberOf seen)) s r c
 
   abbrev rowsOf : Bool → Bool → Bool → ℕ
   rowsOf clash over bit = first ((SEEN, clash) ∷ (PRODUCTS, over) ∷ (NOTBIT, not bit) ∷ [])
 
   -- the verdict by the tests
-  by-tests : {a b c : Bool} → has (bitOr (shows k p) (number seen)) v ≡ a → ltb lineProducts (length (reduced k p) * length (reduced k p)) ≡ b
-      → equal (product k (reduced k p) (reduced k p)) (reduced k p) ≡ c → rowsOf a b c ≡ first (extRows k (number seen) v p)
+  by-tests : {a b c : Bool} → has (bitOr (shows k p) (numberOf seen)) v ≡ a → ltb lineProducts (length (reduced k p) * length (reduced k p)) ≡ b
+      → equal (product k (reduced k p) (reduced k p)) (reduced k p) ≡ c → rowsOf a b c ≡ first (extRows k (numberOf seen) v p)
   by-tests e₁ e₂ e₃ = λ i. rowsOf (sym e₁ i) (sym e₂ i) (sym e₃ i)
 
   long : length (reduced k p) ≡ f .terms
@@ -77,11 +77,11 @@ module _ (k v : ℕ) (seen : List ℕ) {p : Written} {f : Reduced} {s x : List �
   goal-kept : drop goalAt x ≡ drop goalAt s
   goal-kept = drop-more factorAt goalAt s x (omega arith) (d .at .within .after)
 
-  module _ (all : List ℕ) (t : Bool) (u : number all ≡ bitOr (number (f .shown)) (number seen)) (e : t ≡ has (number all) v) where
-    shown-too : number all ≡ bitOr (shows k p) (number seen)
-    shown-too = u ∙ ap (λ (m : ℕ). bitOr m (number seen)) (d .shown)
+  module _ (all : List ℕ) (t : Bool) (u : numberOf all ≡ bitOr (numberOf (f .shown)) (numberOf seen)) (e : t ≡ has (numberOf all) v) where
+    shown-too : numberOf all ≡ bitOr (shows k p) (numberOf seen)
+    shown-too = u ∙ ap (λ (m : ℕ). bitOr m (numberOf seen)) (d .shown)
 
-    clashes : has (bitOr (shows k p) (number seen)) v ≡ t
+    clashes : has (bitOr (shows k p) (numberOf seen)) v ≡ t
     clashes = sym (e ∙ ap (λ (m : ℕ). has m v) shown-too)
 
     pub extends-seen : t ≡ true → {c : Candidate} → c ≡ record { verdict = SEEN; terms = 0; products = 0; seen = replicate setWords 0 } → Extending x c
@@ -110,7 +110,7 @@ module _ (k v : ℕ) (seen : List ℕ) {p : Written} {f : Reduced} {s x : List �
         unfolding first
         extends-no-bit l = refused NOTBIT (λ z. omega (arith, z)) (by-tests (clashes ∙ h) counted (bit ∙ l)) goal-too (w .same ∙ d .at .within .same)
 
-        pub extends-all : b ≡ true → (r more : List ℕ) (m : ℕ) → RunAt statedAt (extension k v (decode (f .terms) (drop statedAt y))) y r m → number more ≡ bitOr (2 ^ v) (number all)
+        pub extends-all : b ≡ true → (r more : List ℕ) (m : ℕ) → RunAt statedAt (extension k v (decode (f .terms) (drop statedAt y))) y r m → numberOf more ≡ bitOr (2 ^ v) (numberOf all)
             → Extending r (record { verdict = 0; terms = m; products = f .terms * f .terms; seen = more })
         unfolding first
         extends-all l r more m i o = record {
@@ -119,7 +119,7 @@ module _ (k v : ℕ) (seen : List ℕ) {p : Written} {f : Reduced} {s x : List �
           few = λ _. i .few;
           count = λ _. ap (λ (m : ℕ). m * m) (sym long);
           most = λ _. few;
-          seen = λ _. o ∙ ap (bitOr (2 ^ v)) shown-too ∙ sym (or-assoc (2 ^ v) (shows k p) (number seen));
+          seen = λ _. o ∙ ap (bitOr (2 ^ v)) shown-too ∙ sym (or-assoc (2 ^ v) (shows k p) (numberOf seen));
           goal = drop-more factorAt goalAt y r (omega arith) (i .within .after) ∙ goal-too;
           same = i .within .same ∙ w .same ∙ d .at .within .same;
         }
@@ -128,7 +128,7 @@ module _ (k v : ℕ) (seen : List ℕ) {p : Written} {f : Reduced} {s x : List �
 module _ {k : ℕ} {store : Store} {qs : List Pair} (seen : List ℕ) (p : Written) {s : List ℕ} {u : Sum} (a : Summed k store qs s u) where
   abbrev Adding : List ℕ → Candidate → Type 0
   Adding r c =
-      CandidateIs (linRows k store p qs) (reduced k p) (productsOf k (find store) qs) (bitOr (bitOr (shows k p) (showsAll k (factorsOf qs))) (number seen)) s r c
+      CandidateIs (linRows k store p qs) (reduced k p) (productsOf k (find store) qs) (bitOr (bitOr (shows k p) (showsAll k (factorsOf qs))) (numberOf seen)) s r c
 
   abbrev mismatch : Rows
   mismatch = (MISMATCH, not (equal (reduced k p) (reduce k (combination k (find store) qs)))) ∷ []
@@ -155,7 +155,7 @@ module _ {k : ℕ} {store : Store} {qs : List Pair} (seen : List ℕ) (p : Writt
     unfolding first
     sum-differs z = refused MISMATCH (λ z. omega (arith, z)) (by-match false z) goal-same (w .same ∙ d .at .within .same)
 
-    pub sum-matches : b ≡ true → (all more : List ℕ) → number all ≡ bitOr (number (f .shown)) (number (u .seen)) → number more ≡ bitOr (number all) (number seen)
+    pub sum-matches : b ≡ true → (all more : List ℕ) → numberOf all ≡ bitOr (numberOf (f .shown)) (numberOf (u .seen)) → numberOf more ≡ bitOr (numberOf all) (numberOf seen)
         → Adding y (record { verdict = 0; terms = f .terms; products = u .terms; seen = more })
     unfolding first
     sum-matches z all more g h = record {
@@ -164,7 +164,7 @@ module _ {k : ℕ} {store : Store} {qs : List Pair} (seen : List ℕ) (p : Writt
       few = λ _. d .at .few;
       count = λ _. a .count o;
       most = λ _. a .most o;
-      seen = λ _. h ∙ ap (λ (m : ℕ). bitOr m (number seen)) (g ∙ ap₂ bitOr (d .shown) (a .seen o));
+      seen = λ _. h ∙ ap (λ (m : ℕ). bitOr m (numberOf seen)) (g ∙ ap₂ bitOr (d .shown) (a .seen o));
       goal = goal-same;
       same = w .same ∙ d .at .within .same;
     }

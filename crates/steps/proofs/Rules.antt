@@ -13,7 +13,7 @@ use Rattle.limits.specs.Verdicts.{ORDER, MISSING, SEEN, PRODUCTS, MISMATCH, NOT
 use Rattle.algebra.specs.Polynomial.{has, equal, reduce, product, extension}
 use Rattle.paper.specs.Statement.{Written, Pair, Ring, bits, Statement, ring, input, goal, lin, del, ext, newIndex, namedIndices, forgets, fields, isRing, isIndex, isVariable, inRange, numbersInRange, tooManyTerms, reduced}
 use Rattle.paper.specs.Rules.{entry, first, opening, inputs, steps, State, stored, find, without, rules, place, entries, shows, combination, productCount, overfull}
-use Rattle.sums.specs.Sums.{indicesOf, InRange, productsOf}
+use Rattle.sums.specs.Sums.{indicesOf, PairsFit, productsOf}
 use Rattle.steps.specs.Parts.{admitRows, linRows, extRows, fullRows}
 
 module _ (capacity : ℕ) (s : State) where
@@ -56,7 +56,7 @@ module _ (capacity : ℕ) (s : State) where
       ∷ (NOTBIT, not (equal (product k (reduced k p) (reduced k p)) (reduced k p))) ∷ fullRows (overfull capacity (s .store) (entry i (extension k v (reduced k p)))))))
       (or-false (stored (s .store) i)) (zero-add (length (reduced k p) * length (reduced k p)))
 
-  pub first-lin : (i : ℕ) (p : Written) (qs : List Pair) → isIndex i ≡ true → inRange p ≡ true → tooManyTerms p ≡ false → InRange qs
+  pub first-lin : (i : ℕ) (p : Written) (qs : List Pair) → isIndex i ≡ true → inRange p ≡ true → tooManyTerms p ≡ false → PairsFit qs
       → first (rules capacity s (lin i p qs))
       ≡ first (admitRows steps (s .phase) (stored (s .store) i) ++ (linRows k (s .store) p qs ++ fullRows (overfull capacity (s .store) (entry i (reduced k p)))))
   unfolding first rules place newIndex namedIndices forgets fields any every without productCount productsOf entries numbersInRange

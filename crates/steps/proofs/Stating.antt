@@ -10,7 +10,7 @@ use Rattle.algebra.specs.Polynomial.{Poly, equal, extension}
 use Rattle.paper.specs.Statement.{Written, Pair, bits, Statement, input, lin, ext, isIndex, isVariable, inRange, tooManyTerms, reduced}
 use Rattle.paper.specs.Rules.{entry, first, inputs, steps, State, stored, find, rules, after, shows, showsAll, overfull}
 use Rattle.sums.specs.Rows.{Rows}
-use Rattle.sums.specs.Sums.{factorsOf, InRange, productsOf}
+use Rattle.sums.specs.Sums.{factorsOf, PairsFit, productsOf}
 use Rattle.sums.proofs.Rows.{Refusing}
 use Rattle.steps.specs.Parts.{admitRows, linRows, extRows, fullRows}
 use Rattle.steps.proofs.Rules.{first-input, first-ext, first-lin}
@@ -37,7 +37,7 @@ module _ (capacity : ℕ) (s : State) where
     ext-stores v u =
         record { later = omega arith; refusing = (omega arith, (omega arith, (omega arith, tt))); verdict = first-ext capacity s x v p i u r t; next = after-ext s x v p }
 
-    pub lin-stores : (qs : List Pair) → InRange qs
+    pub lin-stores : (qs : List Pair) → PairsFit qs
         → Stores capacity s (lin x p qs) steps x (linRows k (s .store) p qs) (reduced k p) (productsOf k (find (s .store)) qs)
         (bitOr (bitOr (shows k p) (showsAll k (factorsOf qs))) (s .seen)) (s .reached || equal (reduced k p) (s .goal))
     lin-stores qs q =

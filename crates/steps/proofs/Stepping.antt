@@ -9,7 +9,7 @@ use lib.ListN.{length, replicate}
 use borrow.Author.Tests.{eq-eqb, ne-eqb}
 use Rattle.limits.specs.Limits.{setWords}
 use Rattle.limits.specs.Verdicts.{ORDER, MISSING}
-use Rattle.words.specs.Words.{number}
+use Rattle.words.specs.Words.{numberOf}
 use Rattle.terms.specs.Terms.{decode}
 use Rattle.paper.specs.Statement.{modulo, Statement, ring, del, isRing, isIndex}
 use Rattle.paper.specs.Rules.{first, Store, opening, inputs, steps, stored, Distinct, remove, start, rules}
@@ -17,8 +17,8 @@ use Rattle.paper.proofs.Ranges.{ring-some, ring-most}
 use Rattle.paper.proofs.Store.{distinct-remove}
 use Rattle.table.specs.declared.Table.{Table}
 use Rattle.table.specs.Table.{storeOf}
-use Rattle.table.specs.Steps as table
-use Rattle.table.specs.Steps.{Absent, FirstAt}
+use Rattle.table.specs.Columns as table
+use Rattle.table.specs.Columns.{Absent, FirstAt}
 use Rattle.table.proofs.Laws.{store-length, absent-stored, found-stored, fresh-fitting}
 use Rattle.table.proofs.Forgetting.{Forgotten, forgotten-fitting}
 use Rattle.steps.specs.declared.state.State.{State}
@@ -39,7 +39,7 @@ pub at-start : (t : Table) → table.Fresh t → AtStart (record {
   products = 0;
   lines = 0;
 })
-unfolding start number decode
+unfolding start numberOf decode
 at-start t f = record {
   state = λ pool scratch. ap (λ (u : Store). record { phase = 0; ring = modulo 0; store = u; seen = 0; goal = []; reached = false; products = 0 }) (f .store pool);
   lines = refl;

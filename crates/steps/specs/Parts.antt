@@ -7,7 +7,7 @@ use lib.{Bits.bitOr, Dec.eqb, Dec.leb, Dec.ltb, ListN.length, ListN.drop, Seq.pa
 use Rattle.limits.specs.Limits.{storedPolynomials, fieldTerms, lineProducts, termWords}
 use Rattle.limits.specs.Verdicts.{ORDER, TAKEN, SEEN, PRODUCTS, MISMATCH, NOTBIT, FULL}
 use Rattle.algebra.specs.Polynomial.{Poly, has, equal, reduce, product}
-use Rattle.words.specs.Words.{number}
+use Rattle.words.specs.Words.{numberOf}
 use Rattle.terms.specs.Terms.{decode}
 use Rattle.paper.specs.Statement.{Written, Pair, reduced}
 use Rattle.paper.specs.Rules.{first, Store, find, shows, combination}
@@ -44,7 +44,7 @@ pub record CandidateIs (rows : Rows) (q : Poly) (made shown : ℕ) (s r : List �
   pub few : c .verdict ≡ 0 → c .terms ≤ fieldTerms
   pub count : c .verdict ≡ 0 → c .products ≡ made
   pub most : c .verdict ≡ 0 → c .products ≤ lineProducts
-  pub seen : c .verdict ≡ 0 → number (c .seen) ≡ shown
+  pub seen : c .verdict ≡ 0 → numberOf (c .seen) ≡ shown
   pub goal : drop goalAt r ≡ drop goalAt s
   pub same : length r ≡ length s
 

@@ -4,13 +4,13 @@ use mathlib.Core.List.{List}
 use Prim.Native.Nat.{ℕ, _*_, _≤_, _<_}
 use lib.ListN.{length, drop}
 use Rattle.limits.specs.Limits.{fieldTerms, lineProducts, greatestRing, mostPoolTerms, termWords, leastScratch}
-use Rattle.words.specs.Words.{number}
+use Rattle.words.specs.Words.{numberOf}
 use Rattle.terms.specs.Terms.{decode}
 use Rattle.paper.specs.Rules as paper
 use Rattle.paper.specs.Rules.{Distinct, start}
 use Rattle.paper.specs.Statement.{modulo}
 use Rattle.table.specs.Table.{storeOf, Fitting}
-use Rattle.table.specs.Steps as table
+use Rattle.table.specs.Columns as table
 use Rattle.scratch.specs.Scratch.{goalAt}
 use Rattle.steps.specs.declared.state.State.{State}
 
@@ -19,7 +19,7 @@ stateOf s pool scratch = record {
   phase = s .phase;
   ring = modulo (s .ring);
   store = storeOf (s .table) pool;
-  seen = number (s .seen);
+  seen = numberOf (s .seen);
   goal = decode (s .«goal_terms») (drop goalAt scratch);
   reached = s .reached;
   products = s .products;

@@ -7,7 +7,7 @@ ghost use lib.Bits.{bitOr};
 ghost use lib.ListN.{length, drop, replicate};
 ghost use Rattle.limits.specs.Limits.{storedPolynomials, fieldTerms, termWords, setWords, variables, leastScratch, mostPoolTerms};
 ghost use Rattle.algebra.specs.Polynomial.{equal, extension};
-ghost use Rattle.words.specs.Words.{number};
+ghost use Rattle.words.specs.Words.{numberOf};
 ghost use Rattle.terms.specs.Terms.{decode};
 ghost use Rattle.paper.specs.Statement.{Written, Pair, reduced};
 ghost use Rattle.paper.specs.Rules.{first, Store, stored, find, shows, showsAll};
@@ -76,7 +76,7 @@ pub(crate) fn extend(scratch: &mut [u64], n: usize, v: usize, k: u32, seen: Set)
         ⌝ }
     ensures { λ r. ⌜
         ((p : Written) → Holds p n statedAt (now (scratch .entry))
-        → CandidateIs (extRows k (number seen) v p) (extension k v (reduced k p)) (length (reduced k p) * length (reduced k p)) (bitOr (bitOr (2 ^ v) (shows k p)) (number seen)) (now (scratch .entry)) (now (scratch .exit)) r)
+        → CandidateIs (extRows k (numberOf seen) v p) (extension k v (reduced k p)) (length (reduced k p) * length (reduced k p)) (bitOr (bitOr (2 ^ v) (shows k p)) (numberOf seen)) (now (scratch .entry)) (now (scratch .exit)) r)
         ⌝ }
 {
     let p = scratch::reduce_field(scratch, scratch::STATED, n, k);
@@ -110,7 +110,7 @@ pub(crate) fn check_sum(scratch: &mut [u64], n: usize, k: u32, sum: Sum, seen: S
         ⌝ }
     ensures { λ r. ⌜
         ((p : Written) → Holds p n statedAt (now (scratch .entry)) → (store : Store) (qs : List Pair) → Summed k store qs (now (scratch .entry)) sum
-        → CandidateIs (linRows k store p qs) (reduced k p) (productsOf k (find store) qs) (bitOr (bitOr (shows k p) (showsAll k (factorsOf qs))) (number seen)) (now (scratch .entry)) (now (scratch .exit)) r)
+        → CandidateIs (linRows k store p qs) (reduced k p) (productsOf k (find store) qs) (bitOr (bitOr (shows k p) (showsAll k (factorsOf qs))) (numberOf seen)) (now (scratch .entry)) (now (scratch .exit)) r)
         ⌝ }
 {
     if sum.verdict != limits::ACCEPTED {

@@ -12,7 +12,7 @@ use Rattle.words.specs.Parts.{part}
 use Rattle.limits.specs.Limits.{fieldTerms, lineProducts, setWords, termWords, mostPoolTerms}
 use Rattle.limits.specs.Verdicts.{PRODUCTS}
 use Rattle.algebra.specs.Polynomial.{Poly, products}
-use Rattle.words.specs.Words.{number}
+use Rattle.words.specs.Words.{numberOf}
 use Rattle.terms.specs.Terms.{decode, rounded, Appended}
 use Rattle.terms.proofs.Decode.{decode-length, decode-part}
 use Rattle.paper.specs.Rules.{first}
@@ -45,9 +45,9 @@ module _ (f : Reduced) (m start : ℕ) (old : Sum) (pool s : List ℕ) where
   long = ap₂ _*_ (decode-length (f .terms) (drop factorAt s)) (decode-length m (drop start pool))
 
   pub extended-over : lineProducts < old .terms + f .terms * m → {c : Sum} → c ≡ record { verdict = PRODUCTS; terms = 0; seen = replicate setWords 0 }
-      → Extended factor other (number (f .shown)) old s s c
+      → Extended factor other (numberOf (f .shown)) old s s c
   unfolding first
-  extended-over h q = subst (Extended factor other (number (f .shown)) old s s) (sym q) (record {
+  extended-over h q = subst (Extended factor other (numberOf (f .shown)) old s s) (sym q) (record {
     verdict = sym (ap (λ (b : Bool). first ((PRODUCTS, b) ∷ [])) (lt-ltb lineProducts (old .terms + length factor * length other) (omega (arith, long))));
     count = λ e. absurd (no e);
     most = λ e. absurd (no e);
@@ -61,8 +61,8 @@ module _ (f : Reduced) (m start : ℕ) (old : Sum) (pool s : List ℕ) where
 
   pub extended-all : (r all : List ℕ) → f .terms ≤ fieldTerms → goalAt ≤ length s → start + m * termWords ≤ length pool → old .terms + f .terms * m ≤ lineProducts
       → Appended 0 (old .terms) (f .terms * m) (rounded (products factor (decode m (part start (length pool - start) pool)))) s r
-      → number all ≡ bitOr (number (f .shown)) (number (old .seen))
-      → Extended factor other (number (f .shown)) old s r (record { verdict = 0; terms = old .terms + f .terms * m; seen = all })
+      → numberOf all ≡ bitOr (numberOf (f .shown)) (numberOf (old .seen))
+      → Extended factor other (numberOf (f .shown)) old s r (record { verdict = 0; terms = old .terms + f .terms * m; seen = all })
   unfolding first
   extended-all r all few l p h a e = record {
     verdict = sym (ap (λ (b : Bool). first ((PRODUCTS, b) ∷ [])) (le-ltb lineProducts (old .terms + length factor * length other) (omega (arith, long))));

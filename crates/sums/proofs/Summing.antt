@@ -17,7 +17,7 @@ use Rattle.limits.specs.Verdicts.{MISSING, PRODUCTS}
 use Rattle.algebra.specs.Polynomial.{Poly, products}
 use Rattle.algebra.proofs.Unions.{or-assoc}
 use Rattle.words.specs.Parts.{Within}
-use Rattle.words.specs.Words.{number}
+use Rattle.words.specs.Words.{numberOf}
 use Rattle.terms.specs.Terms.{decode, rounded}
 use Rattle.terms.proofs.Decode.{decode-below}
 use Rattle.terms.proofs.Rounding.{rounded-append}
@@ -26,19 +26,19 @@ use Rattle.paper.specs.Statement.{Written, Pair, isIndex, inRange, tooManyTerms
 use Rattle.paper.specs.Rules.{first, Store, stored, find, shows, showsAll, combination}
 use Rattle.written.specs.Worded.{Holds}
 use Rattle.table.specs.Table.{polyAt, storeOfColumns}
-use Rattle.table.specs.Steps.{Absent, FirstAt}
+use Rattle.table.specs.Columns.{Absent, FirstAt}
 use Rattle.table.proofs.Laws.{absent-stored, found-stored, found-find}
 use Rattle.scratch.specs.Scratch.{statedAt, factorAt, goalAt, ReducedAt}
 use Rattle.scratch.specs.declared.Reduced.{Reduced}
 use Rattle.scratch.proofs.Keeping.{kept-factor}
 use Rattle.sums.specs.declared.Sum.{Sum}
-use Rattle.sums.specs.Sums.{indicesOf, factorsOf, InRange, productsOf, pairRows, Summed, Extended}
+use Rattle.sums.specs.Sums.{indicesOf, factorsOf, PairsFit, productsOf, pairRows, Summed, Extended}
 use Rattle.sums.proofs.Rows.{first-open}
 use Rattle.sums.proofs.Adding.{extended-as}
 
 -- ---- no pairs
 pub summed-none : {k : ℕ} {store : Store} {scratch : List ℕ} {sum : Sum} → sum ≡ record { verdict = 0; terms = 0; seen = replicate setWords 0 } → Summed k store [] scratch sum
-unfolding first productsOf combination showsAll every any total decode rounded number
+unfolding first productsOf combination showsAll every any total decode rounded numberOf
 summed-none {k} {store} {scratch} e = subst (Summed k store [] scratch) (sym e) (record {
   ranged = record { indices = refl; factors = refl; short = refl };
   verdict = refl;
@@ -104,7 +104,7 @@ module _ {k : ℕ} {store : Store} {qs : List Pair} {s : List ℕ} {old : Sum} (
   factors-more : factorsOf more ≡ factorsOf qs ++ (w ∷ [])
   factors-more = map-append (λ q. q .factor) qs (q ∷ [])
 
-  ranged : InRange more
+  ranged : PairsFit more
   ranged = record {
     indices = ap (every isIndex) indices-more ∙ every-more isIndex (indicesOf qs) index ∙ and-both _ _ (a .ranged .indices) i;
     factors = ap (every inRange) factors-more ∙ every-more inRange (factorsOf qs) w ∙ and-both _ _ (a .ranged .factors) (h .ranged);
@@ -193,7 +193,7 @@ module _ (indices starts counts pool : List ℕ) (n index : ℕ) where
       factor-stopped v = summed-stopped index f w i h a (found-stored indices starts counts pool n index j o) v
 
       pub factor-added : {y r : List ℕ} {d : Reduced} {sum : Sum} → old .verdict ≡ 0 → ReducedAt k w factorAt s y d
-          → Extended (decode (d .terms) (drop factorAt y)) (polyAt starts counts pool j) (number (d .shown)) old y r sum
+          → Extended (decode (d .terms) (drop factorAt y)) (polyAt starts counts pool j) (numberOf (d .shown)) old y r sum
           → Summed k store′ (qs ++ (record { index = index; factor = w } ∷ [])) r sum
       factor-added {y} v d x =
           summed-more index f w i h a (found-stored indices starts counts pool n index j o) v

@@ -10,7 +10,7 @@ use Rattle.ground.specs.Lists.{every, any, total}
 use Rattle.limits.specs.Limits.{storedPolynomials, lineProducts, termWords, mostPoolTerms}
 use Rattle.limits.specs.Verdicts.{MISSING, PRODUCTS}
 use Rattle.algebra.specs.Polynomial.{Poly, products}
-use Rattle.words.specs.Words.{number}
+use Rattle.words.specs.Words.{numberOf}
 use Rattle.terms.specs.Terms.{decode, rounded}
 use Rattle.paper.specs.Statement.{Written, Pair, isIndex, inRange, tooManyTerms, reduced}
 use Rattle.paper.specs.Rules.{first, Store, stored, find, showsAll, combination}
@@ -31,7 +31,7 @@ abbrev pub factorsOf : List Pair → List Written
 factorsOf qs = map (λ q. q .factor) qs
 
 -- neither NUMBER nor TERMS refuses them
-pub record InRange (qs : List Pair) : Type 0 where
+pub record PairsFit (qs : List Pair) : Type 0 where
   pub indices : every isIndex (indicesOf qs) ≡ true
   pub factors : every inRange (factorsOf qs) ≡ true
   pub short : any tooManyTerms (factorsOf qs) ≡ false
@@ -49,12 +49,12 @@ pairRows k store qs =
 
 -- refused, or all products from word 0 on, rounded as words hold them
 pub record Summed (k : ℕ) (store : Store) (qs : List Pair) (scratch : List ℕ) (sum : Sum) : Type 0 where
-  pub ranged : InRange qs
+  pub ranged : PairsFit qs
   pub verdict : sum .verdict ≡ first (pairRows k store qs)
   pub count : sum .verdict ≡ 0 → sum .terms ≡ productsOf k (find store) qs
   pub most : sum .verdict ≡ 0 → sum .terms ≤ lineProducts
   pub run : sum .verdict ≡ 0 → decode (sum .terms) scratch ≡ rounded (combination k (find store) qs)
-  pub seen : sum .verdict ≡ 0 → number (sum .seen) ≡ showsAll k (factorsOf qs)
+  pub seen : sum .verdict ≡ 0 → numberOf (sum .seen) ≡ showsAll k (factorsOf qs)
 
 -- ---- one pair
 -- the j-th polynomial lies in the pool
@@ -69,5 +69,5 @@ pub record Extended (p q : Poly) (shown : ℕ) (old : Sum) (s r : List ℕ) (sum
   pub count : sum .verdict ≡ 0 → sum .terms ≡ old .terms + length p * length q
   pub most : sum .verdict ≡ 0 → sum .terms ≤ lineProducts
   pub run : sum .verdict ≡ 0 → decode (sum .terms) r ≡ decode (old .terms) s ++ rounded (products p q)
-  pub seen : sum .verdict ≡ 0 → number (sum .seen) ≡ bitOr shown (number (old .seen))
+  pub seen : sum .verdict ≡ 0 → numberOf (sum .seen) ≡ bitOr shown (numberOf (old .seen))
   pub kept : Kept s r

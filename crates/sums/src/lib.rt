@@ -6,7 +6,7 @@ ghost use Prim.Native.Nat.{ℕ, _+_, _*_, _≤_, _<_};
 ghost use lib.ListN.{length, drop, replicate};
 ghost use Rattle.limits.specs.Limits.{fieldTerms, lineProducts, setWords, termWords, leastScratch};
 ghost use Rattle.algebra.specs.Polynomial.{products};
-ghost use Rattle.words.specs.Words.{number};
+ghost use Rattle.words.specs.Words.{numberOf};
 ghost use Rattle.terms.specs.Terms.{decode, rounded, Appended};
 ghost use Rattle.paper.specs.Statement.{Written, Pair, isIndex};
 ghost use Rattle.paper.specs.Rules.{Store};
@@ -81,7 +81,7 @@ fn add_products(
         Lies (now starts) (now counts) (now pool) j × (factor .terms ≤ fieldTerms) × (sum .terms ≤ lineProducts)
         × (leastScratch ≤ length (now scratch))
         ⌝ }
-    ensures { λ r. ⌜ Extended (decode (factor .terms) (drop factorAt (now (scratch .entry)))) (polyAt (now (starts .entry)) (now (counts .entry)) (now (pool .entry)) j) (number (factor .shown)) sum (now (scratch .entry)) (now (scratch .exit)) r ⌝ }
+    ensures { λ r. ⌜ Extended (decode (factor .terms) (drop factorAt (now (scratch .entry)))) (polyAt (now (starts .entry)) (now (counts .entry)) (now (pool .entry)) j) (numberOf (factor .shown)) sum (now (scratch .entry)) (now (scratch .exit)) r ⌝ }
 {
     let m = counts[j] as usize;
     let count = sum.terms + factor.terms * m;

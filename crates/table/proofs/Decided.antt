@@ -11,7 +11,7 @@ use Rattle.ground.proofs.Decided.{one-first}
 use Rattle.table.specs.declared.Found.{Found}
 use Rattle.table.specs.declared.Found.the-variants.{At, Nothing}
 use Rattle.table.specs.declared.Table.{Table}
-use Rattle.table.specs.Steps.{FirstAt, Finds, Closed, Fresh}
+use Rattle.table.specs.Columns.{FirstAt, Finds, Closed, Fresh}
 use Rattle.table.proofs.Laws.{store-length}
 
 -- ---- `find`

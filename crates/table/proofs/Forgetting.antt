@@ -19,7 +19,7 @@ use Rattle.terms.proofs.Decode.{decode-same}
 use Rattle.paper.specs.Rules.{Store, remove}
 use Rattle.table.specs.declared.Table.{Table}
 use Rattle.table.specs.Table.{polyAt, entryAt, storeOfColumns, storeOf, termsBefore, PackedColumns, Packed, Fitting}
-use Rattle.table.specs.Steps.{Closed, FirstAt}
+use Rattle.table.specs.Columns.{Closed, FirstAt}
 use Rattle.table.proofs.Firsts.{firsts-split, firsts-cut, behind, stored-none, remove-split}
 use Rattle.table.proofs.Moving.{moved-part}
 use Rattle.table.proofs.Packing.{before-more, before-same, ends-before, ends-used}

@@ -18,7 +18,7 @@ use Rattle.table.specs.declared.Found.{Found}
 use Rattle.table.specs.declared.Found.the-variants.{At, Nothing}
 use Rattle.table.specs.declared.Table.{Table}
 use Rattle.table.specs.Table.{firsts, polyAt, entryAt, storeOfColumns, storeOf, termsBefore, Packed, Fitting}
-use Rattle.table.specs.Steps.{Absent, FirstAt, Finds, Fresh}
+use Rattle.table.specs.Columns.{Absent, FirstAt, Finds, Fresh}
 use Rattle.table.proofs.Firsts.{firsts-length, firsts-same, firsts-split, behind, stored-none, stored-split, find-split}
 use Rattle.table.proofs.Packing.{ends-used}
 

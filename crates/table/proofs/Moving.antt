@@ -10,7 +10,7 @@ use lib.Seq.{paste, length-paste-head, getD-append-add, getD-drop, take-append-l
 use Rattle.ground.proofs.Lists.{drop-take}
 use Rattle.words.specs.Parts.{part}
 use Rattle.words.proofs.Parts.{drop-to-paste, paste-more}
-use Rattle.table.specs.Steps.{Closed}
+use Rattle.table.specs.Columns.{Closed}
 
 -- past what was pasted, the list is as it was
 getD-past : (d : List ℕ) (at : ℕ) (s : List ℕ) (j m : ℕ) → at + j ≤ length d → j ≤ length s → at + j ≤ m

@@ -9,7 +9,7 @@ use native.Mathlib.Omega.{arith}
 use lib.ListN.{getD}
 use Rattle.limits.specs.Limits.{fieldTerms}
 use Rattle.table.specs.Table.{termsBefore, PackedColumns}
-use Rattle.table.specs.Steps.{Closable}
+use Rattle.table.specs.Columns.{Closable}
 
 pub before-more : (cs : List ℕ) (j : ℕ) → termsBefore cs (j + 1) ≡ termsBefore cs j + getD cs j 0
 unfolding termsBefore

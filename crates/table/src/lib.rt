@@ -5,7 +5,7 @@ ghost use lib.ListN.{length, drop, getD, set};
 ghost use lib.Seq.{paste};
 ghost use Rattle.words.specs.Parts.{amongEight};
 ghost use Rattle.limits.specs.Limits.{storedPolynomials};
-ghost use Rattle.table.specs.Steps.{Absent, Finds, Closable, Closed, Fresh};
+ghost use Rattle.table.specs.Columns.{Absent, Finds, Closable, Closed, Fresh};
 
 pub type Indices = [u32; limits::STORED_POLYNOMIALS];
 

@@ -9,16 +9,16 @@ use Rattle.ground.proofs.Lists.{drop-take}
 use Rattle.limits.specs.Limits.{setWords, termWords}
 use Rattle.algebra.specs.Polynomial.{Term, Poly}
 use Rattle.words.specs.Parts.{part, Within}
-use Rattle.words.specs.Words.{number}
+use Rattle.words.specs.Words.{numberOf}
 use Rattle.words.proofs.Laws.{Words, words-take, words-drop, number-inj, number-take}
 use Rattle.words.proofs.Decided.{one-within}
 use Rattle.terms.specs.Terms.{termOf, decode, Appended}
 use Rattle.terms.proofs.Decode.{term-part}
 
 -- ---- `term_of`: a term by what it stands for
-number-of : (t : List ℕ) → length t ≤ termWords → number t ≡ termOf t .coef * 2 ^ (64 * setWords) + termOf t .set
+number-of : (t : List ℕ) → length t ≤ termWords → numberOf t ≡ termOf t .coef * 2 ^ (64 * setWords) + termOf t .set
 unfolding termOf
-number-of t l = ap number (sym (take-all termWords t l)) ∙ number-take t setWords
+number-of t l = ap numberOf (sym (take-all termWords t l)) ∙ number-take t setWords
 
 pub one-term : (t u : List ℕ) → length t ≡ length u → length t ≤ termWords → Words t → Words u → termOf t ≡ termOf u → t ≡ u
 one-term t u l m f g e =

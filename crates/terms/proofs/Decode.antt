@@ -11,7 +11,7 @@ use Rattle.ground.proofs.Lists.{take-fewer, drop-more, drop-take}
 use Rattle.limits.specs.Limits.{setWords, termWords}
 use Rattle.algebra.specs.Polynomial.{Term, Poly}
 use Rattle.words.specs.Parts.{part, Within}
-use Rattle.words.specs.Words.{number}
+use Rattle.words.specs.Words.{numberOf}
 use Rattle.words.proofs.Parts.{below-kept, part-paste, paste-within}
 use Rattle.terms.specs.Terms.{termOf, none, decode}
 
@@ -31,12 +31,12 @@ term-part s = rw (take-take setWords termWords s (omega arith), getD-take termWo
 
 -- a term from its set and its coefficient
 pub term-made : (z a : List ℕ) (c : ℕ) → length z ≡ termWords → length a ≡ setWords → getD z setWords 0 ≡ c
-    → termOf (paste z 0 a setWords) ≡ record { set = number a; coef = c }
+    → termOf (paste z 0 a setWords) ≡ record { set = numberOf a; coef = c }
 unfolding termOf
 term-made z a c hz ha e = λ i. record { set = es i; coef = ec i }
   where
-    es : number (take setWords (paste z 0 a setWords)) ≡ number a
-    es = ap number (take-paste z 0 a setWords (omega arith) (omega arith) ∙ take-all setWords a (omega arith))
+    es : numberOf (take setWords (paste z 0 a setWords)) ≡ numberOf a
+    es = ap numberOf (take-paste z 0 a setWords (omega arith) (omega arith) ∙ take-all setWords a (omega arith))
 
     ec : getD (paste z 0 a setWords) setWords 0 ≡ c
     ec =

@@ -7,11 +7,11 @@ use lib.ListN.{take, drop, getD}
 use Rattle.limits.specs.Limits.{setWords, termWords}
 use Rattle.algebra.specs.Polynomial.{Term, Poly}
 use Rattle.words.specs.Parts.{Within}
-use Rattle.words.specs.Words.{number}
+use Rattle.words.specs.Words.{numberOf}
 
 -- the term in the first words of l
 unfoldable pub termOf : List ℕ → Term
-termOf l = record { set = number (take setWords l); coef = getD l setWords 0 }
+termOf l = record { set = numberOf (take setWords l); coef = getD l setWords 0 }
 
 -- what stands past the end of a run
 abbrev pub none : Term

@@ -10,11 +10,11 @@ use Rattle.limits.specs.Limits.{setWords}
 use Rattle.ground.proofs.Decided.{one-first}
 use Rattle.algebra.specs.Polynomial.{bit}
 use Rattle.words.specs.Parts.{part, Within}
-use Rattle.words.specs.Words.{number, Lowest}
+use Rattle.words.specs.Words.{numberOf, Lowest}
 use Rattle.words.proofs.Laws.{Words, number-inj, trailing-lowest}
 
 -- a set by its number: `union`, `with`, and what other crates give as a set
-pub one-set : (a b : List ℕ) → length a ≡ setWords → length b ≡ setWords → Words a → Words b → number a ≡ number b → a ≡ b
+pub one-set : (a b : List ℕ) → length a ≡ setWords → length b ≡ setWords → Words a → Words b → numberOf a ≡ numberOf b → a ≡ b
 one-set a b l m f g e = number-inj a b (l ∙ sym m) f g e
 
 -- `lowest`

@@ -21,7 +21,7 @@ use borrow.Author.Tests.{ltb-true, ltb-false, eqb-true, eqb-false, lt-ltb, le-lt
 use Rattle.ground.proofs.Tests.{split, by-cond}
 use Rattle.algebra.specs.Polynomial.{bit, members}
 use Rattle.algebra.proofs.Sets.{bit-zero, bit-suc, bit-of-zero}
-use Rattle.words.specs.Words.{number, orderOf, Lowest}
+use Rattle.words.specs.Words.{numberOf, orderOf, Lowest}
 use Rattle.words.specs.declared.Order.{Order}
 use Rattle.words.specs.declared.Order.the-variants.{Less, Equal, Greater}
 
@@ -50,13 +50,13 @@ words-set (w ∷ ws) (suc i) x f h (suc j) = words-set ws i x (λ k. f (suc k)) 
 pub pow-words : (n : ℕ) → 2 ^ (64 * suc n) ≡ 2 ^ (64 * n) * 2 ^ 64
 pow-words n = ap (λ (x : ℕ). 2 ^ x) (mul-suc 64 n) ∙ pow-add 2 (64 * n) 64
 
-pub number-lt : (ws : List ℕ) → Words ws → number ws < 2 ^ (64 * length ws)
-unfolding number
+pub number-lt : (ws : List ℕ) → Words ws → numberOf ws < 2 ^ (64 * length ws)
+unfolding numberOf
 number-lt [] f = omega arith
 number-lt (w ∷ ws) f = rw (pow-words (length ws)) (digits-lt (number-lt ws (λ i. f (suc i))) (f 0 .fits))
 
-pub number-inj : (us ws : List ℕ) → length us ≡ length ws → Words us → Words ws → number us ≡ number ws → us ≡ ws
-unfolding number
+pub number-inj : (us ws : List ℕ) → length us ≡ length ws → Words us → Words ws → numberOf us ≡ numberOf ws → us ≡ ws
+unfolding numberOf
 number-inj [] [] l f g e = refl
 number-inj [] (w ∷ ws) l f g e = absurd (let z : 0 ≡ suc (length ws) = l in omega arith)
 number-inj (u ∷ us) [] l f g e = absurd (let z : suc (length us) ≡ 0 = l in omega arith)
@@ -66,16 +66,16 @@ number-inj (u ∷ us) (w ∷ ws) l f g e =
     ap₂ _∷_ (omega arith) (number-inj us ws (omega arith) (λ i. f (suc i)) (λ i. g (suc i)) (omega arith))
 
 -- the lowest i + 1 words are the lowest i and word i above them
-pub number-take : (ws : List ℕ) (i : ℕ) → number (take (suc i) ws) ≡ getD ws i 0 * 2 ^ (64 * i) + number (take i ws)
-unfolding number
-number-take [] i = omega (arith, ap number (take-nil {A = ℕ} i))
+pub number-take : (ws : List ℕ) (i : ℕ) → numberOf (take (suc i) ws) ≡ getD ws i 0 * 2 ^ (64 * i) + numberOf (take i ws)
+unfolding numberOf
+number-take [] i = omega (arith, ap numberOf (take-nil {A = ℕ} i))
 number-take (w ∷ ws) zero = omega arith
 number-take (w ∷ ws) (suc i) =
     omega (arith, number-take ws i, ap (λ (x : ℕ). getD ws i 0 * x) (pow-words i), mul-assoc (getD ws i 0) (2 ^ (64 * i)) (2 ^ 64))
 
-pub number-take-lt : (ws : List ℕ) (i : ℕ) → Words ws → i ≤ length ws → number (take i ws) < 2 ^ (64 * i)
+pub number-take-lt : (ws : List ℕ) (i : ℕ) → Words ws → i ≤ length ws → numberOf (take i ws) < 2 ^ (64 * i)
 number-take-lt ws i f l =
-    subst (λ (n : ℕ). number (take i ws) < 2 ^ (64 * n)) (length-take-le i ws l) (number-lt (take i ws) (words-take i ws f))
+    subst (λ (n : ℕ). numberOf (take i ws) < 2 ^ (64 * n)) (length-take-le i ws l) (number-lt (take i ws) (words-take i ws f))
 
 -- ---- order
 -- what an order says of two numbers
@@ -99,14 +99,14 @@ order-says o m n e =
 
 -- the highest words that differ decide
 pub number-less : (n : ℕ) (us ws : List ℕ) → length us ≡ length ws → Words us → n < length us
-    → drop (suc n) us ≡ drop (suc n) ws → getD us n 0 < getD ws n 0 → number us < number ws
-unfolding number
+    → drop (suc n) us ≡ drop (suc n) ws → getD us n 0 < getD ws n 0 → numberOf us < numberOf ws
+unfolding numberOf
 number-less n [] ws l f h t o = absurd (not-suc-le-zero h)
 number-less n (u ∷ us) [] l f h t o = absurd (let z : suc (length us) ≡ 0 = l in omega arith)
-number-less zero (u ∷ us) (w ∷ ws) l f h t o = let e : number us ≡ number ws = ap number t in omega arith
+number-less zero (u ∷ us) (w ∷ ws) l f h t o = let e : numberOf us ≡ numberOf ws = ap numberOf t in omega arith
 number-less (suc n) (u ∷ us) (w ∷ ws) l f h t o =
     let fu : u < 2 ^ 64 = f 0 .fits in
-    let ih : number us < number ws = number-less n us ws (omega arith) (λ i. f (suc i)) (omega arith) t o in
+    let ih : numberOf us < numberOf ws = number-less n us ws (omega arith) (λ i. f (suc i)) (omega arith) t o in
     omega arith
 
 -- ---- digits
@@ -127,17 +127,17 @@ block-high : (m w v : ℕ) → w < 2 ^ 64 → bit (m * 2 ^ 64 + w) (64 + v) ≡ 
 block-high m w v h = sym (bit-high (m * 2 ^ 64 + w) 64 v) ∙ ap (λ (x : ℕ). bit x v) (high m 64 h)
 
 -- digit v is digit v % 64 of word v / 64
-pub number-bit : (ws : List ℕ) (v : ℕ) → Words ws → bit (number ws) v ≡ bit (getD ws (v / 64) 0) (v % 64)
-unfolding number
+pub number-bit : (ws : List ℕ) (v : ℕ) → Words ws → bit (numberOf ws) v ≡ bit (getD ws (v / 64) 0) (v % 64)
+unfolding numberOf
 number-bit [] v f = bit-of-zero v ∙ sym (bit-of-zero (v % 64))
 number-bit (w ∷ ws) v f =
     ⊎-elim
     (λ l. let h : v < 64 = ltb-true v 64 l in
-    block-low (number ws) w v (f 0 .fits) h
+    block-low (numberOf ws) w v (f 0 .fits) h
     ∙ ap₂ (λ (i u : ℕ). bit (getD (w ∷ ws) i 0) u) (let e : 0 ≡ v / 64 = omega arith in e) (let e : v ≡ v % 64 = omega arith in e))
     (λ l. let h : 64 ≤ v = ltb-false v 64 l in
-    ap (bit (number (w ∷ ws))) (let e : v ≡ 64 + (v - 64) = omega arith in e)
-    ∙ block-high (number ws) w (v - 64) (f 0 .fits)
+    ap (bit (numberOf (w ∷ ws))) (let e : v ≡ 64 + (v - 64) = omega arith in e)
+    ∙ block-high (numberOf ws) w (v - 64) (f 0 .fits)
     ∙ number-bit ws (v - 64) (λ i. f (suc i))
     ∙ ap₂ (λ (i u : ℕ). bit (getD (w ∷ ws) i 0) u)
     (let e : suc ((v - 64) / 64) ≡ v / 64 = omega arith in e) (let e : (v - 64) % 64 ≡ v % 64 = omega arith in e))
@@ -189,22 +189,22 @@ length-members (suc n) v m h =
 
 -- the lowest word, then the others
 members-word : (n v w : ℕ) (ws : List ℕ) → w < 2 ^ 64
-    → members (64 * suc n) v (number (w ∷ ws)) ≡ members 64 v w ++ members (64 * n) (v + 64) (number ws)
-unfolding number
+    → members (64 * suc n) v (numberOf (w ∷ ws)) ≡ members 64 v w ++ members (64 * n) (v + 64) (numberOf ws)
+unfolding numberOf
 members-word n v w ws h =
-    ap (λ (x : ℕ). members x v (number ws * 2 ^ 64 + w)) (let e : 64 * suc n ≡ 64 + 64 * n = omega arith in e)
-    ∙ members-append 64 (64 * n) v (number ws * 2 ^ 64 + w)
-    ∙ ap₂ (λ (x y : ℕ). members 64 v x ++ members (64 * n) (v + 64) y) (low (number ws) 64 h) (high (number ws) 64 h)
+    ap (λ (x : ℕ). members x v (numberOf ws * 2 ^ 64 + w)) (let e : 64 * suc n ≡ 64 + 64 * n = omega arith in e)
+    ∙ members-append 64 (64 * n) v (numberOf ws * 2 ^ 64 + w)
+    ∙ ap₂ (λ (x y : ℕ). members 64 v x ++ members (64 * n) (v + 64) y) (low (numberOf ws) 64 h) (high (numberOf ws) 64 h)
 
 -- the variables of the words from i on are those of word i, then those of the words from i + 1 on
 pub members-drop : (ws : List ℕ) (i : ℕ) → Words ws → i < length ws
-    → members (64 * (length ws - i)) (64 * i) (number (drop i ws))
-    ≡ members 64 (64 * i) (getD ws i 0) ++ members (64 * (length ws - (i + 1))) (64 * (i + 1)) (number (drop (i + 1) ws))
+    → members (64 * (length ws - i)) (64 * i) (numberOf (drop i ws))
+    ≡ members 64 (64 * i) (getD ws i 0) ++ members (64 * (length ws - (i + 1))) (64 * (i + 1)) (numberOf (drop (i + 1) ws))
 members-drop ws i f h =
-    ap₂ (λ (n : ℕ) (us : List ℕ). members (64 * n) (64 * i) (number us))
+    ap₂ (λ (n : ℕ) (us : List ℕ). members (64 * n) (64 * i) (numberOf us))
     (let e : length ws - i ≡ suc (length ws - (i + 1)) = omega arith in e) (drop-cons ws i 0 h)
     ∙ members-word (length ws - (i + 1)) (64 * i) (getD ws i 0) (drop (suc i) ws) (f i .fits)
-    ∙ ap₂ (λ (v : ℕ) (us : List ℕ). members 64 (64 * i) (getD ws i 0) ++ members (64 * (length ws - (i + 1))) v (number us))
+    ∙ ap₂ (λ (v : ℕ) (us : List ℕ). members 64 (64 * i) (getD ws i 0) ++ members (64 * (length ws - (i + 1))) v (numberOf us))
     (let e : 64 * i + 64 ≡ 64 * (i + 1) = omega arith in e) (ap (λ (n : ℕ). drop n ws) (sym (add-one i)))
 
 -- ---- the lowest variable

@@ -14,7 +14,7 @@ use lib.Pow.{pow-add, pow-pos, shl-exact}
 use lib.Seq.{drop-cons, take-all}
 use Rattle.algebra.specs.Polynomial.{bit, has, members}
 use Rattle.algebra.proofs.Sets.{bit-or, bit-ext}
-use Rattle.words.specs.Words.{number, orderOf}
+use Rattle.words.specs.Words.{numberOf, orderOf}
 use Rattle.words.specs.declared.Order.the-variants.{Less, Equal, Greater}
 use Rattle.words.proofs.Laws.{Words, words-set, pow-words, number-lt, number-take, number-take-lt, is-order, number-less, number-bit, length-members}
 
@@ -24,22 +24,22 @@ or-left-comm a b c = bit-ext _ _ (λ v. omega (arith, bit-or a (bitOr b c) v, bi
 
 -- x united with word i
 number-or : (ws : List ℕ) (i x : ℕ) → Words ws → x < 2 ^ 64 → i < length ws
-    → number (set ws i (bitOr (getD ws i 0) x)) ≡ bitOr (x * 2 ^ (64 * i)) (number ws)
-unfolding number
+    → numberOf (set ws i (bitOr (getD ws i 0) x)) ≡ bitOr (x * 2 ^ (64 * i)) (numberOf ws)
+unfolding numberOf
 number-or [] i x f h l = absurd (not-suc-le-zero l)
 number-or (w ∷ ws) zero x f h l =
-    ap₂ (λ (y z : ℕ). y * 2 ^ 64 + z) (sym (or-zero-l (number ws))) (or-comm w x)
-    ∙ sym (or-block 64 0 (number ws) x w h (f 0 .fits))
-    ∙ ap (λ (y : ℕ). bitOr y (number ws * 2 ^ 64 + w)) (let e : 0 * 2 ^ 64 + x ≡ x * 1 = omega arith in e)
+    ap₂ (λ (y z : ℕ). y * 2 ^ 64 + z) (sym (or-zero-l (numberOf ws))) (or-comm w x)
+    ∙ sym (or-block 64 0 (numberOf ws) x w h (f 0 .fits))
+    ∙ ap (λ (y : ℕ). bitOr y (numberOf ws * 2 ^ 64 + w)) (let e : 0 * 2 ^ 64 + x ≡ x * 1 = omega arith in e)
 number-or (w ∷ ws) (suc i) x f h l =
     ap₂ (λ (y z : ℕ). y * 2 ^ 64 + z) (number-or ws i x (λ j. f (suc j)) h (le-of-suc-le-suc l)) (sym (or-zero-l w))
-    ∙ sym (or-block 64 (x * 2 ^ (64 * i)) (number ws) 0 w (pow-pos 64) (f 0 .fits))
-    ∙ ap (λ (y : ℕ). bitOr y (number ws * 2 ^ 64 + w))
+    ∙ sym (or-block 64 (x * 2 ^ (64 * i)) (numberOf ws) 0 w (pow-pos 64) (f 0 .fits))
+    ∙ ap (λ (y : ℕ). bitOr y (numberOf ws * 2 ^ 64 + w))
     (add-zero (x * 2 ^ (64 * i) * 2 ^ 64) ∙ mul-assoc x (2 ^ (64 * i)) (2 ^ 64) ∙ ap (λ (y : ℕ). x * y) (sym (pow-words i)))
 
 -- the union with the lowest words, word by word
-pub union-start : (m : ℕ) (ws : List ℕ) → m ≡ bitOr m (number (take 0 ws))
-unfolding number
+pub union-start : (m : ℕ) (ws : List ℕ) → m ≡ bitOr m (numberOf (take 0 ws))
+unfolding numberOf
 union-start m ws = sym (or-zero-r m)
 
 pub union-words : (us ws : List ℕ) (i : ℕ) → Words us → Words ws → Words (set us i (bitOr (getD us i 0) (getD ws i 0)))
@@ -47,31 +47,31 @@ union-words us ws i f g =
     words-set us i (bitOr (getD us i 0) (getD ws i 0)) f (or-lt 64 (getD us i 0) (getD ws i 0) (f i .fits) (g i .fits))
 
 pub union-more : (us : List ℕ) (m : ℕ) (ws : List ℕ) (i : ℕ) → Words us → Words ws → i < length us → i < length ws
-    → number us ≡ bitOr m (number (take i ws))
-    → number (set us i (bitOr (getD us i 0) (getD ws i 0))) ≡ bitOr m (number (take (i + 1) ws))
+    → numberOf us ≡ bitOr m (numberOf (take i ws))
+    → numberOf (set us i (bitOr (getD us i 0) (getD ws i 0))) ≡ bitOr m (numberOf (take (i + 1) ws))
 union-more us m ws i f g hu hw e =
     number-or us i (getD ws i 0) f (g i .fits) hu
     ∙ ap (bitOr (getD ws i 0 * 2 ^ (64 * i))) e
-    ∙ or-left-comm (getD ws i 0 * 2 ^ (64 * i)) m (number (take i ws))
-    ∙ ap (bitOr m) (or-shifted (getD ws i 0) (64 * i) (number (take i ws)) (number-take-lt ws i g (omega arith))
-    ∙ sym (number-take ws i) ∙ ap (λ (n : ℕ). number (take n ws)) (sym (add-one i)))
+    ∙ or-left-comm (getD ws i 0 * 2 ^ (64 * i)) m (numberOf (take i ws))
+    ∙ ap (bitOr m) (or-shifted (getD ws i 0) (64 * i) (numberOf (take i ws)) (number-take-lt ws i g (omega arith))
+    ∙ sym (number-take ws i) ∙ ap (λ (n : ℕ). numberOf (take n ws)) (sym (add-one i)))
 
 pub union-end : (us : List ℕ) (m : ℕ) (ws : List ℕ) (i : ℕ) → length ws ≤ i
-    → number us ≡ bitOr m (number (take i ws)) → number us ≡ bitOr m (number ws)
-union-end us m ws i h e = e ∙ ap (λ (x : List ℕ). bitOr m (number x)) (take-all i ws h)
+    → numberOf us ≡ bitOr m (numberOf (take i ws)) → numberOf us ≡ bitOr m (numberOf ws)
+union-end us m ws i h e = e ∙ ap (λ (x : List ℕ). bitOr m (numberOf x)) (take-all i ws h)
 
 -- variable v, as a shift gives it, united with its word
 pub number-with : (ws : List ℕ) (v : ℕ) → Words ws → v / 64 < length ws
-    → number (set ws (v / 64) (bitOr (getD ws (v / 64) 0) ((1 * 2 ^ (v % 64)) % 2 ^ 64))) ≡ bitOr (2 ^ v) (number ws)
+    → numberOf (set ws (v / 64) (bitOr (getD ws (v / 64) 0) ((1 * 2 ^ (v % 64)) % 2 ^ 64))) ≡ bitOr (2 ^ v) (numberOf ws)
 number-with ws v f h =
     number-or ws (v / 64) ((1 * 2 ^ (v % 64)) % 2 ^ 64) f (mod-lt (1 * 2 ^ (v % 64)) (pow-pos 64)) h
-    ∙ ap (λ (x : ℕ). bitOr x (number ws))
+    ∙ ap (λ (x : ℕ). bitOr x (numberOf ws))
     (ap (λ (x : ℕ). x * 2 ^ (64 * (v / 64))) (shl-exact {a = 1} 1 (v % 64) 64 (omega arith) (omega arith) ∙ one-mul (2 ^ (v % 64)))
     ∙ sym (pow-add 2 (v % 64) (64 * (v / 64)))
     ∙ ap (λ (x : ℕ). 2 ^ x) (let e : v % 64 + 64 * (v / 64) ≡ v = omega arith in e))
 
 -- the digit as a shift and a mask give it
-pub number-has : (ws : List ℕ) (v : ℕ) → Words ws → eqb (bitAnd (getD ws (v / 64) 0 / 2 ^ (v % 64)) 1) 1 ≡ has (number ws) v
+pub number-has : (ws : List ℕ) (v : ℕ) → Words ws → eqb (bitAnd (getD ws (v / 64) 0 / 2 ^ (v % 64)) 1) 1 ≡ has (numberOf ws) v
 unfolding has bit
 number-has ws v f = ap (λ (x : ℕ). eqb x 1) (and-mask (getD ws (v / 64) 0 / 2 ^ (v % 64)) 1 ∙ sym (number-bit ws v f))
 
@@ -85,11 +85,11 @@ module _ (us ws : List ℕ) (l : length us ≡ length ws) where
     next : suc (n - 1) ≡ n
     next = omega arith
 
-    pub order-less : Words us → getD us (n - 1) 0 < getD ws (n - 1) 0 → Less ≡ orderOf (number us) (number ws)
-    order-less f o = is-order Less (number us) (number ws) (number-less (n - 1) us ws l f (omega arith) (rw next above) o)
+    pub order-less : Words us → getD us (n - 1) 0 < getD ws (n - 1) 0 → Less ≡ orderOf (numberOf us) (numberOf ws)
+    order-less f o = is-order Less (numberOf us) (numberOf ws) (number-less (n - 1) us ws l f (omega arith) (rw next above) o)
 
-    pub order-greater : Words ws → getD ws (n - 1) 0 < getD us (n - 1) 0 → Greater ≡ orderOf (number us) (number ws)
-    order-greater f o = is-order Greater (number us) (number ws) (number-less (n - 1) ws us (sym l) f (omega arith) (rw next (sym above)) o)
+    pub order-greater : Words ws → getD ws (n - 1) 0 < getD us (n - 1) 0 → Greater ≡ orderOf (numberOf us) (numberOf ws)
+    order-greater f o = is-order Greater (numberOf us) (numberOf ws) (number-less (n - 1) ws us (sym l) f (omega arith) (rw next (sym above)) o)
 
     pub order-next : getD us (n - 1) 0 ≡ getD ws (n - 1) 0 → drop (n - 1) us ≡ drop (n - 1) ws
     order-next o =
@@ -97,30 +97,30 @@ module _ (us ws : List ℕ) (l : length us ≡ length ws) where
         ∙ ap₂ _∷_ o (rw next above)
         ∙ sym (drop-cons ws (n - 1) 0 (omega arith))
 
-pub order-end : (us ws : List ℕ) (n : ℕ) → drop n us ≡ drop n ws → n ≤ 0 → Equal ≡ orderOf (number us) (number ws)
-order-end us ws n e h = let z : n ≡ 0 = omega arith in is-order Equal (number us) (number ws) (ap number (rw z at e))
+pub order-end : (us ws : List ℕ) (n : ℕ) → drop n us ≡ drop n ws → n ≤ 0 → Equal ≡ orderOf (numberOf us) (numberOf ws)
+order-end us ws n e h = let z : n ≡ 0 = omega arith in is-order Equal (numberOf us) (numberOf ws) (ap numberOf (rw z at e))
 
 -- ---- count
 -- the variables of the lowest words, word by word
-pub count-start : (ws : List ℕ) → 0 ≡ ones (number (take 0 ws))
-unfolding number
+pub count-start : (ws : List ℕ) → 0 ≡ ones (numberOf (take 0 ws))
+unfolding numberOf
 count-start ws = omega (arith, ones-le 0 0 (omega arith))
 
 pub count-more : (ws : List ℕ) (i : ℕ) → Words ws → i < length ws
-    → ones (number (take i ws)) + ones (getD ws i 0) ≡ ones (number (take (i + 1) ws))
+    → ones (numberOf (take i ws)) + ones (getD ws i 0) ≡ ones (numberOf (take (i + 1) ws))
 count-more ws i f h =
-    add-comm (ones (number (take i ws))) (ones (getD ws i 0))
-    ∙ sym (ones-cat (64 * i) (getD ws i 0) (number (take i ws)) (number-take-lt ws i f (omega arith)))
-    ∙ ap ones (sym (number-take ws i)) ∙ ap (λ (n : ℕ). ones (number (take n ws))) (sym (add-one i))
+    add-comm (ones (numberOf (take i ws))) (ones (getD ws i 0))
+    ∙ sym (ones-cat (64 * i) (getD ws i 0) (numberOf (take i ws)) (number-take-lt ws i f (omega arith)))
+    ∙ ap ones (sym (number-take ws i)) ∙ ap (λ (n : ℕ). ones (numberOf (take n ws))) (sym (add-one i))
 
 pub count-word : (ws : List ℕ) (i : ℕ) → Words ws → ones (getD ws i 0) ≤ 64
 count-word ws i f = ones-le 64 (getD ws i 0) (f i .fits)
 
-pub count-le : (ws : List ℕ) (i : ℕ) → Words ws → i ≤ length ws → ones (number (take i ws)) ≤ 64 * i
-count-le ws i f h = ones-le (64 * i) (number (take i ws)) (number-take-lt ws i f h)
+pub count-le : (ws : List ℕ) (i : ℕ) → Words ws → i ≤ length ws → ones (numberOf (take i ws)) ≤ 64 * i
+count-le ws i f h = ones-le (64 * i) (numberOf (take i ws)) (number-take-lt ws i f h)
 
 pub count-end : (ws : List ℕ) (i n v : ℕ) → Words ws → length ws ≤ i → n ≡ 64 * length ws
-    → ones (number (take i ws)) ≡ length (members n v (number ws))
+    → ones (numberOf (take i ws)) ≡ length (members n v (numberOf ws))
 count-end ws i n v f h e =
-    ap (λ (x : List ℕ). ones (number x)) (take-all i ws h)
-    ∙ sym (length-members n v (number ws) (subst (λ (x : ℕ). number ws < 2 ^ x) (sym e) (number-lt ws f)))
+    ap (λ (x : List ℕ). ones (numberOf x)) (take-all i ws h)
+    ∙ sym (length-members n v (numberOf ws) (subst (λ (x : ℕ). numberOf ws < 2 ^ x) (sym e) (number-lt ws f)))

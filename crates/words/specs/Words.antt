@@ -9,9 +9,9 @@ use Rattle.words.specs.declared.Order.{Order}
 use Rattle.words.specs.declared.Order.the-variants.{Less, Equal, Greater}
 
 -- the lowest word first
-unfoldable pub number : List ℕ → ℕ
-number [] = 0
-number (w ∷ ws) = number ws * 2 ^ 64 + w
+unfoldable pub numberOf : List ℕ → ℕ
+numberOf [] = 0
+numberOf (w ∷ ws) = numberOf ws * 2 ^ 64 + w
 
 -- which of two numbers is the larger
 unfoldable pub orderOf : ℕ → ℕ → Order

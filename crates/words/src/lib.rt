@@ -5,7 +5,7 @@ ghost use lib.Bits.{bitOr};
 ghost use lib.ListN.{length, replicate};
 ghost use Rattle.limits.specs.Limits.{variables};
 ghost use Rattle.algebra.specs.Polynomial.{has, members};
-ghost use Rattle.words.specs.Words.{number, orderOf, Lowest};
+ghost use Rattle.words.specs.Words.{numberOf, orderOf, Lowest};
 
 // A set of variables, its lowest word first.
 pub type Set = [u64; limits::SET_WORDS];
@@ -51,7 +51,7 @@ pub fn negative(c: u64) -> u64
 
 // The variables of a and those of b.
 pub fn union(a: Set, b: Set) -> Set
-    ensures { λ r. ⌜ number r ≡ bitOr (number a) (number b) ⌝ }
+    ensures { λ r. ⌜ numberOf r ≡ bitOr (numberOf a) (numberOf b) ⌝ }
 {
     let mut r = a;
     let mut i = 0;
@@ -65,7 +65,7 @@ pub fn union(a: Set, b: Set) -> Set
 // Whether v is a variable of a.
 pub fn has(a: Set, v: usize) -> bool
     requires { ⌜ v < variables ⌝ }
-    ensures { λ r. ⌜ r ≡ has (number a) v ⌝ }
+    ensures { λ r. ⌜ r ≡ has (numberOf a) v ⌝ }
 {
     (a[v / 64] >> (v % 64)) & 1 == 1
 }
@@ -73,7 +73,7 @@ pub fn has(a: Set, v: usize) -> bool
 // The variables of a, and v.
 pub fn with(a: Set, v: usize) -> Set
     requires { ⌜ v < variables ⌝ }
-    ensures { λ r. ⌜ number r ≡ bitOr (2 ^ v) (number a) ⌝ }
+    ensures { λ r. ⌜ numberOf r ≡ bitOr (2 ^ v) (numberOf a) ⌝ }
 {
     let mut r = a;
     r[v / 64] |= 1 << (v % 64);
@@ -82,7 +82,7 @@ pub fn with(a: Set, v: usize) -> Set
 
 // The order of two sets as numbers: the highest words that differ decide.
 pub fn compare(a: Set, b: Set) -> Order
-    ensures { λ r. ⌜ r ≡ orderOf (number a) (number b) ⌝ }
+    ensures { λ r. ⌜ r ≡ orderOf (numberOf a) (numberOf b) ⌝ }
 {
     let mut n = limits::SET_WORDS;
     while 0 < n {
@@ -102,7 +102,7 @@ pub fn compare(a: Set, b: Set) -> Order
 
 // How many variables a has.
 pub fn count(a: Set) -> usize
-    ensures { λ r. ⌜ r ≡ length (members variables 0 (number a)) ⌝ }
+    ensures { λ r. ⌜ r ≡ length (members variables 0 (numberOf a)) ⌝ }
 {
     let mut n: usize = 0;
     let mut i = 0;

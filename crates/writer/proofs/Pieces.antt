@@ -9,7 +9,7 @@ use Rattle.ground.specs.Lists.{gather}
 use Rattle.ground.proofs.Tests.{by-cond}
 use Rattle.limits.specs.Limits.{variables, setWords}
 use Rattle.algebra.specs.Polynomial.{members}
-use Rattle.words.specs.Words.{number, Lowest}
+use Rattle.words.specs.Words.{numberOf, Lowest}
 use Rattle.words.proofs.Laws.{Words, members-lowest, members-none, members-drop}
 use Rattle.paper.specs.Grammar.{Bytes}
 use Rattle.paper.specs.Spelling.{spellNumber}
@@ -58,15 +58,15 @@ word-most first w h = omega (arith, variables-most 64 first w (omega arith), mem
 
 -- ---- the variables of the words from i on
 abbrev pub setRest : List ℕ → ℕ → Bytes
-setRest a i = gather dotted (members (64 * (length a - i)) (64 * i) (number (drop i a)))
+setRest a i = gather dotted (members (64 * (length a - i)) (64 * i) (numberOf (drop i a)))
 
-pub set-start : (a : List ℕ) → length a ≡ setWords → gather dotted (members variables 0 (number a)) ≡ setRest a 0
-set-start a h = let e : variables ≡ 64 * (length a - 0) = omega arith in ap (λ (n : ℕ). gather dotted (members n 0 (number a))) e
+pub set-start : (a : List ℕ) → length a ≡ setWords → gather dotted (members variables 0 (numberOf a)) ≡ setRest a 0
+set-start a h = let e : variables ≡ 64 * (length a - 0) = omega arith in ap (λ (n : ℕ). gather dotted (members n 0 (numberOf a))) e
 
 pub set-more : (a : List ℕ) (i : ℕ) → Words a → i < length a → setRest a i ≡ gather dotted (members 64 (64 * i) (getD a i 0)) ++ setRest a (i + 1)
 set-more a i f h =
     ap (gather dotted) (members-drop a i f h)
-    ∙ gather-append dotted (members 64 (64 * i) (getD a i 0)) (members (64 * (length a - (i + 1))) (64 * (i + 1)) (number (drop (i + 1) a)))
+    ∙ gather-append dotted (members 64 (64 * i) (getD a i 0)) (members (64 * (length a - (i + 1))) (64 * (i + 1)) (numberOf (drop (i + 1) a)))
 
 pub set-length-more : (a : List ℕ) (i : ℕ) → Words a → i < length a
     → length (setRest a i) ≡ length (gather dotted (members 64 (64 * i) (getD a i 0))) + length (setRest a (i + 1))

@@ -12,7 +12,7 @@ use Rattle.words.specs.Parts.{part}
 use Rattle.ground.proofs.Tests.{by-cond}
 use Rattle.limits.specs.Limits.{setWords, termWords, variables}
 use Rattle.algebra.specs.Polynomial.{members, Term, Poly}
-use Rattle.words.specs.Words.{number}
+use Rattle.words.specs.Words.{numberOf}
 use Rattle.terms.specs.Terms.{termOf, decode}
 use Rattle.terms.proofs.Decode.{decode-length, decode-read, decode-rest}
 use Rattle.paper.specs.Grammar.{Bytes, bytes}
@@ -56,13 +56,13 @@ unfolding spell decode bytes
 run-none k n s e = rw e
 
 -- ---- a term in words, whose set is a
-module _ (k : ℕ) (t a : List ℕ) (e : number a ≡ termOf t .set) where
-  pub term-pieces : spellTerm k (termOf t) ≡ spellCoefficient k (getD t setWords 0) ++ gather dotted (members variables 0 (number a))
+module _ (k : ℕ) (t a : List ℕ) (e : numberOf a ≡ termOf t .set) where
+  pub term-pieces : spellTerm k (termOf t) ≡ spellCoefficient k (getD t setWords 0) ++ gather dotted (members variables 0 (numberOf a))
   unfolding spellTerm termOf
   term-pieces = ap (λ (m : ℕ). spellCoefficient k (getD t setWords 0) ++ gather dotted (members variables 0 m)) (sym e)
 
-  pub term-length-pieces : length (spellTerm k (termOf t)) ≡ length (spellCoefficient k (getD t setWords 0)) + length (gather dotted (members variables 0 (number a)))
-  term-length-pieces = ap length term-pieces ∙ length-append (spellCoefficient k (getD t setWords 0)) (gather dotted (members variables 0 (number a)))
+  pub term-length-pieces : length (spellTerm k (termOf t)) ≡ length (spellCoefficient k (getD t setWords 0)) + length (gather dotted (members variables 0 (numberOf a)))
+  term-length-pieces = ap length term-pieces ∙ length-append (spellCoefficient k (getD t setWords 0)) (gather dotted (members variables 0 (numberOf a)))
 
 pub term-coef : (k : ℕ) (t : List ℕ) → termOf t .coef < 2 ^ k → getD t setWords 0 < 2 ^ k
 unfolding termOf

@@ -6,7 +6,7 @@ ghost use lib.ListN.{length};
 ghost use Rattle.ground.specs.Lists.{gather};
 ghost use Rattle.limits.specs.Limits.{variables, termWords, fieldTerms};
 ghost use Rattle.algebra.specs.Polynomial.{members};
-ghost use Rattle.words.specs.Words.{number};
+ghost use Rattle.words.specs.Words.{numberOf};
 ghost use Rattle.terms.specs.Terms.{termOf, decode};
 ghost use Rattle.paper.specs.Spelling.{spellNumber, spellCoefficient, spellTerm, spell};
 ghost use Rattle.writer.specs.Writing.{dotted, Cut, room};
@@ -24,7 +24,7 @@ const VARIABLE_ROOM: usize = 4;
 const TERM_ROOM: usize = 22;
 
 // The bytes of a number's decimal.
-pub(crate) fn number_length(n: u64) -> usize
+pub fn number_length(n: u64) -> usize
     ensures { λ r. ⌜ r ≡ length (spellNumber n) ⌝ }
 {
     let mut digits = 1;
@@ -57,7 +57,7 @@ fn word_length(w: u64, first: u64) -> usize
 
 // The bytes of a set's variables.
 fn set_length(a: Set) -> usize
-    ensures { λ r. ⌜ r ≡ length (gather dotted (members variables 0 (number a))) ⌝ }
+    ensures { λ r. ⌜ r ≡ length (gather dotted (members variables 0 (numberOf a))) ⌝ }
 {
     let mut sum = 0;
     let mut i = 0;
@@ -69,7 +69,7 @@ fn set_length(a: Set) -> usize
 }
 
 // The bytes of a coefficient at k.
-fn coefficient_length(c: u64, k: u32) -> usize
+pub fn coefficient_length(c: u64, k: u32) -> usize
     requires { ⌜ (1 ≤ k) × (k ≤ 64) × (c < 2 ^ k) ⌝ }
     ensures { λ r. ⌜ r ≡ length (spellCoefficient k c) ⌝ }
 {
@@ -90,7 +90,7 @@ fn term_length(t: Term, k: u32) -> usize
 }
 
 // The bytes of a run of n terms at k.
-fn run_length(s: &[u64], n: usize, k: u32) -> usize
+pub fn run_length(s: &[u64], n: usize, k: u32) -> usize
     requires { ⌜ (1 ≤ k) × (k ≤ 64) × (n ≤ fieldTerms) × (n * termWords ≤ length (now s)) × Cut k (decode n (now s)) ⌝ }
     ensures { λ r. ⌜ r ≡ length (spell k (decode n (now (s .entry)))) ⌝ }
 {

@@ -4,13 +4,13 @@ ghost use Prim.Native.Nat.{_^_, _≤_, _<_};
 ghost use Rattle.paper.specs.Spelling.{spellCoefficient};
 ghost use Rattle.writer.specs.Writing.{spellSigned};
 
-pub(crate) struct Signed {
-    pub(crate) minus: bool,
-    pub(crate) magnitude: u64,
+pub struct Signed {
+    pub minus: bool,
+    pub magnitude: u64,
 }
 
 // The coefficient c at k: c where it is at most half of 2 ^ k, else minus what is left to 2 ^ k.
-pub(crate) fn with_sign(c: u64, k: u32) -> Signed
+pub fn with_sign(c: u64, k: u32) -> Signed
     requires { ⌜ (1 ≤ k) × (k ≤ 64) × (c < 2 ^ k) ⌝ }
     ensures { λ r. ⌜ spellSigned r ≡ spellCoefficient k c ⌝ }
 {

@@ -4,7 +4,7 @@ ghost use lib.ListN.{length, drop};
 ghost use Rattle.ground.specs.Lists.{gather};
 ghost use Rattle.limits.specs.Limits.{variables, termWords};
 ghost use Rattle.algebra.specs.Polynomial.{members};
-ghost use Rattle.words.specs.Words.{number};
+ghost use Rattle.words.specs.Words.{numberOf};
 ghost use Rattle.terms.specs.Terms.{termOf, decode};
 ghost use Rattle.paper.specs.Spelling.{spellNumber, spellCoefficient, spellTerm, spell};
 ghost use Rattle.writer.specs.Writing.{Wrote, dotted, spaced, Cut};
@@ -14,7 +14,7 @@ use terms::Term;
 use words::Set;
 
 // Writes the decimal of a number, its digits from the last to the first.
-fn write_number(out: &mut [u8], at: usize, n: u64) -> usize
+pub fn write_number(out: &mut [u8], at: usize, n: u64) -> usize
     requires { ⌜ at + length (spellNumber n) ≤ length (now out) ⌝ }
     ensures { λ r. ⌜ Wrote (now (out .entry)) at (spellNumber n) (now (out .exit)) r ⌝ }
 {
@@ -31,7 +31,7 @@ fn write_number(out: &mut [u8], at: usize, n: u64) -> usize
 }
 
 // Writes a variable with its dot.
-fn write_variable(out: &mut [u8], at: usize, v: u64) -> usize
+pub fn write_variable(out: &mut [u8], at: usize, v: u64) -> usize
     requires { ⌜ at + length (dotted v) ≤ length (now out) ⌝ }
     ensures { λ r. ⌜ Wrote (now (out .entry)) at (dotted v) (now (out .exit)) r ⌝ }
 {
@@ -56,8 +56,8 @@ fn write_word(out: &mut [u8], at: usize, w: u64, first: u64) -> usize
 
 // Writes the variables of a set.
 fn write_set(out: &mut [u8], at: usize, a: Set) -> usize
-    requires { ⌜ at + length (gather dotted (members variables 0 (number a))) ≤ length (now out) ⌝ }
-    ensures { λ r. ⌜ Wrote (now (out .entry)) at (gather dotted (members variables 0 (number a))) (now (out .exit)) r ⌝ }
+    requires { ⌜ at + length (gather dotted (members variables 0 (numberOf a))) ≤ length (now out) ⌝ }
+    ensures { λ r. ⌜ Wrote (now (out .entry)) at (gather dotted (members variables 0 (numberOf a))) (now (out .exit)) r ⌝ }
 {
     let mut end = at;
     let mut i = 0;
@@ -69,7 +69,7 @@ fn write_set(out: &mut [u8], at: usize, a: Set) -> usize
 }
 
 // Writes a coefficient at k.
-fn write_coefficient(out: &mut [u8], at: usize, c: u64, k: u32) -> usize
+pub fn write_coefficient(out: &mut [u8], at: usize, c: u64, k: u32) -> usize
     requires { ⌜ (1 ≤ k) × (k ≤ 64) × (c < 2 ^ k) × (at + length (spellCoefficient k c) ≤ length (now out)) ⌝ }
     ensures { λ r. ⌜ Wrote (now (out .entry)) at (spellCoefficient k c) (now (out .exit)) r ⌝ }
 {
@@ -82,7 +82,7 @@ fn write_coefficient(out: &mut [u8], at: usize, c: u64, k: u32) -> usize
 }
 
 // Writes a term at k.
-fn write_term(out: &mut [u8], at: usize, t: Term, k: u32) -> usize
+pub fn write_term(out: &mut [u8], at: usize, t: Term, k: u32) -> usize
     requires { ⌜ (1 ≤ k) × (k ≤ 64) × (termOf t .coef < 2 ^ k) × (at + length (spellTerm k (termOf t)) ≤ length (now out)) ⌝ }
     ensures { λ r. ⌜ Wrote (now (out .entry)) at (spellTerm k (termOf t)) (now (out .exit)) r ⌝ }
 {
@@ -116,16 +116,16 @@ fn write_rest(out: &mut [u8], at: usize, s: &[u64], n: usize, k: u32) -> usize
     end
 }
 
-// Writes a run of n terms at k, from the start of the output on.
-pub fn write_run(out: &mut [u8], s: &[u64], n: usize, k: u32) -> usize
-    requires { ⌜ (1 ≤ k) × (k ≤ 64) × (n * termWords ≤ length (now s)) × Cut k (decode n (now s)) × (length (spell k (decode n (now s))) ≤ length (now out)) ⌝ }
-    ensures { λ r. ⌜ Wrote (now (out .entry)) 0 (spell k (decode n (now (s .entry)))) (now (out .exit)) r ⌝ }
+// Writes a run of n terms at k.
+pub fn write_run(out: &mut [u8], at: usize, s: &[u64], n: usize, k: u32) -> usize
+    requires { ⌜ (1 ≤ k) × (k ≤ 64) × (n * termWords ≤ length (now s)) × Cut k (decode n (now s)) × (at + length (spell k (decode n (now s))) ≤ length (now out)) ⌝ }
+    ensures { λ r. ⌜ Wrote (now (out .entry)) at (spell k (decode n (now (s .entry)))) (now (out .exit)) r ⌝ }
 {
     if n == 0 {
-        out[0] = b'0';
-        return 1;
+        out[at] = b'0';
+        return at + 1;
     }
     let t = terms::read_term(s, 0);
-    let end = write_term(out, 0, t, k);
+    let end = write_term(out, at, t, k);
     write_rest(out, end, s, n, k)
 }

@@ -5,7 +5,7 @@ use native.Mathlib.Omega.{arith}
 use lib.ListN.{length}
 use borrow.Author.Needs.{needs}
 use Rattle.paper.proofs.Ranges.{ring-some, ring-most}
-use Rattle.speller.specs.Spells.{Judged}
+use Rattle.speller.specs.Spells.{FieldJudged}
 use Rattle.speller.proofs.Giving.{gives-as, gives-refused, gives-field, holds-few}
 use Rattle.speller.proofs.spell_within.Statement.{statement}
 use Rattle.speller.proofs.spell_within.Tie as tie
@@ -17,7 +17,7 @@ abbrev begin : tie.After-judge → tie.Start
 begin c = reading c .before .before .before .before .before
 
 judged : (c : tie.After-judge)
-    → let a = begin c .args in let f = reading c .read-field in Judged (a .field .now) (a .k) (f .last .1 .1 .0) (f .result .terms) (c .judge .result)
+    → let a = begin c .args in let f = reading c .read-field in FieldJudged (a .field .now) (a .k) (f .last .1 .1 .0) (f .result .terms) (c .judge .result)
 judged c = c .judge .ensures _ _ (reading c .read-field .ensures)
 
 returns : tie.Need-returns

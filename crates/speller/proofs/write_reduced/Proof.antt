@@ -37,7 +37,7 @@ write-run-requires c κs =
       b .pre .1,
       omega (arith, l .few, l .within .same, b .pre .3),
       leaves-cut _ _ l,
-      leb-true _ (length (b .args .out .now)) (sym (f .run-fits .ensures) ∙ not-false _ (c .before .before .if1 .left)),
+      omega (arith, leb-true _ (length (b .args .out .now)) (sym (f .run-fits .ensures) ∙ not-false _ (c .before .before .if1 .left))),
     )
 
 returns-2 : tie.Need-returns-2

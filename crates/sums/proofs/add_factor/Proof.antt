@@ -2,7 +2,7 @@
 -- Assumes nothing.
 use Prim.Native.Nat.{_≤_}
 use native.Mathlib.Omega.{arith}
-use Rattle.table.specs.Steps.{FirstAt}
+use Rattle.table.specs.Columns.{FirstAt}
 use Rattle.table.proofs.Laws.{found-at, found-nothing}
 use Rattle.scratch.proofs.Keeping.{kept-refl, kept-trans, kept-factor}
 use Rattle.sums.proofs.Adding.{place-lies}

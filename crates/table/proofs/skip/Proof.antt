@@ -6,7 +6,7 @@ use native.Mathlib.Omega.{arith}
 use borrow.Author.Count.{below-none}
 use borrow.Author.Needs.{needs}
 use Rattle.words.proofs.Eight.{below-eight}
-use Rattle.table.specs.Steps.{Absent}
+use Rattle.table.specs.Columns.{Absent}
 use Rattle.table.proofs.skip.Statement.{statement}
 use Rattle.table.proofs.skip.Tie as tie
 

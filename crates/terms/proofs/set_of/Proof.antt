@@ -6,7 +6,7 @@ use borrow.Author.Needs.{needs}
 use lib.ListN.{length, replicate, length-set}
 use lib.Seq.{paste}
 use Rattle.limits.specs.Limits.{setWords, termWords}
-use Rattle.words.specs.Words.{number}
+use Rattle.words.specs.Words.{numberOf}
 use Rattle.words.proofs.Parts.{front-more, front-all}
 use Rattle.terms.specs.Terms.{termOf}
 use Rattle.terms.proofs.set_of.Statement.{statement}
@@ -29,7 +29,7 @@ unfolding termOf
 returns c =
     let b = c .before in
     let e : b .loop .i ≡ setWords = omega arith in
-    ap number ((rw e at (b .loop .inv .3)) ∙ front-all (replicate setWords 0) (b .before .args .t1) setWords refl)
+    ap numberOf ((rw e at (b .loop .inv .3)) ∙ front-all (replicate setWords 0) (b .before .args .t1) setWords refl)
 
 pub set-of-spec : {M : Type 1} → statement M
 set-of-spec =

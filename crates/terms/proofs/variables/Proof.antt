@@ -4,20 +4,20 @@ use mathlib.Core.Path.{_≡_, subst}
 use native.Mathlib.Omega.{arith}
 use borrow.Author.Needs.{needs}
 use Rattle.algebra.specs.Polynomial.{vars}
-use Rattle.words.specs.Words.{number}
+use Rattle.words.specs.Words.{numberOf}
 use Rattle.terms.specs.Terms.{decode}
 use Rattle.terms.proofs.Runs.{variables-start, variables-more}
 use Rattle.terms.proofs.variables.Statement.{statement}
 use Rattle.terms.proofs.variables.Tie as tie
 
 abbrev Inv-loop : tie.InvT-loop
-Inv-loop s n a₀ i₀ a i = (i ≤ n) × (number a ≡ vars (decode i s))
+Inv-loop s n a₀ i₀ a i = (i ≤ n) × (numberOf a ≡ vars (decode i s))
 
 abbrev μ-loop : tie.MeasureT-loop
 μ-loop s n a₀ i₀ a i = n - i
 
 loop-holds : tie.Need-loop-holds Inv-loop μ-loop
-unfolding number
+unfolding numberOf
 loop-holds c =
     (omega arith, variables-start (c .before .args .s .now))
 
@@ -33,7 +33,7 @@ returns c =
     let b = c .before in
     let a = b .before .before .args in
     let e : b .loop .i ≡ a .n = omega arith in
-    subst (λ (k : ℕ). number (b .loop .a) ≡ vars (decode k (a .s .now))) e (b .loop .inv .1)
+    subst (λ (k : ℕ). numberOf (b .loop .a) ≡ vars (decode k (a .s .now))) e (b .loop .inv .1)
 
 pub variables-spec : {M : Type 1} → statement M
 variables-spec =

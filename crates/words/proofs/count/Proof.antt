@@ -7,14 +7,14 @@ use lib.Count.{ones}
 use lib.ListN.{take}
 use borrow.Author.Needs.{needs}
 use Rattle.limits.specs.Limits.{setWords, variables}
-use Rattle.words.specs.Words.{number}
+use Rattle.words.specs.Words.{numberOf}
 use Rattle.words.proofs.Laws.{Words}
 use Rattle.words.proofs.WordByWord.{count-start, count-more, count-word, count-le, count-end}
 use Rattle.words.proofs.count.Statement.{statement}
 use Rattle.words.proofs.count.Tie as tie
 
 abbrev Inv-loop : tie.InvT-loop
-Inv-loop a n₀ i₀ n i = (i ≤ setWords) × (n ≡ ones (number (take i a)))
+Inv-loop a n₀ i₀ n i = (i ≤ setWords) × (n ≡ ones (numberOf (take i a)))
 
 abbrev μ-loop : tie.MeasureT-loop
 μ-loop a n₀ i₀ n i = setWords - i

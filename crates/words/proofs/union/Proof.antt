@@ -7,20 +7,20 @@ use lib.Bits.{bitOr}
 use lib.ListN.{length, take}
 use borrow.Author.Needs.{needs}
 use Rattle.limits.specs.Limits.{setWords}
-use Rattle.words.specs.Words.{number}
+use Rattle.words.specs.Words.{numberOf}
 use Rattle.words.proofs.Laws.{Words}
 use Rattle.words.proofs.WordByWord.{union-start, union-words, union-more, union-end}
 use Rattle.words.proofs.union.Statement.{statement}
 use Rattle.words.proofs.union.Tie as tie
 
 abbrev Inv-loop : tie.InvT-loop
-Inv-loop b r₀ i₀ r i = (i ≤ setWords) × (number r ≡ bitOr (number r₀) (number (take i b))) × (length r ≡ setWords) × Words r
+Inv-loop b r₀ i₀ r i = (i ≤ setWords) × (numberOf r ≡ bitOr (numberOf r₀) (numberOf (take i b))) × (length r ≡ setWords) × Words r
 
 abbrev μ-loop : tie.MeasureT-loop
 μ-loop b r₀ i₀ r i = setWords - i
 
 loop-holds : tie.Need-loop-holds Inv-loop μ-loop
-loop-holds c = (omega arith, union-start (number (c .args .a)) (c .args .t2), search needs, λ i. search needs)
+loop-holds c = (omega arith, union-start (numberOf (c .args .a)) (c .args .t2), search needs, λ i. search needs)
 
 loop-again : tie.Need-loop-again Inv-loop μ-loop
 loop-again c =
@@ -28,7 +28,7 @@ loop-again c =
     let args = c .before .before .args in
     let f : Words (args .t2) = λ i. search needs in (
       omega arith,
-      union-more (loop .r) (number (args .a)) (args .t2) (loop .i) (loop .inv .3) f (search needs) (search needs) (loop .inv .1),
+      union-more (loop .r) (numberOf (args .a)) (args .t2) (loop .i) (loop .inv .3) f (search needs) (search needs) (loop .inv .1),
       search needs,
       union-words (loop .r) (args .t2) (loop .i) (loop .inv .3) f,
     )
@@ -37,7 +37,7 @@ returns : tie.Need-returns Inv-loop μ-loop
 returns c =
     let loop = c .before .loop in
     let args = c .before .before .args in
-    union-end (loop .r) (number (args .a)) (args .t2) (loop .i) (search needs) (loop .inv .1)
+    union-end (loop .r) (numberOf (args .a)) (args .t2) (loop .i) (search needs) (loop .inv .1)
 
 pub union-spec : {M : Type 1} → statement M
 union-spec =

@@ -5,11 +5,8 @@ use borrow.Author.Needs.{needs}
 use Rattle.reader.proofs.find.line_end.Statement.{statement}
 use Rattle.reader.proofs.find.line_end.Tie as tie
 
-find-byte-requires : tie.Need-find-byte-requires
-find-byte-requires c κs = search needs
-
 returns : tie.Need-returns
 returns c = let a = c .before .before .args in line-end (a .text .now) (a .at) (c .find-byte .result) (c .find-byte .ensures)
 
 pub line-end-spec : {M : Type 1} → statement M
-line-end-spec = tie.close (tie.spec find-byte-requires returns)
+line-end-spec = tie.close (tie.spec (λ c κs. search needs) returns)

@@ -13,9 +13,6 @@ use Rattle.reader.proofs.number.decimal_at.Tie as tie
 returns : tie.Need-returns
 returns c = let a = c .before .before .args in record { reads = decimal-end (a .s .now) (a .at) (omega arith); onward = omega arith; inside = omega arith }
 
-shared-slice-read-b : tie.Need-shared-slice-read-b
-shared-slice-read-b c = search needs
-
 returns-2 : tie.Need-returns-2
 returns-2 c =
     let a = c .before .before .before .before .args in
@@ -26,22 +23,10 @@ returns-3 c =
     let a = c .before .before .before .before .before .args in
     record { reads = decimal-high (a .s .now) (a .at) (omega arith) (c .if3 .taken); onward = omega arith; inside = omega arith }
 
-add-t8 : tie.Need-add-t8
-add-t8 c = search needs
-
 returns-4 : tie.Need-returns-4
 returns-4 c =
     let a = c .before .before .before .before .before .before .args in
     record { reads = decimal-zero (a .s .now) (a .at) (omega arith) (c .if4 .taken); onward = omega arith; inside = omega arith }
-
-add-digits-from : tie.Need-add-digits-from
-add-digits-from c = search needs
-
-cast-digits-from : tie.Need-cast-digits-from
-cast-digits-from c = search needs
-
-digits-from-requires : tie.Need-digits-from-requires
-digits-from-requires c κs = search needs
 
 returns-5 : tie.Need-returns-5
 returns-5 c =
@@ -55,12 +40,12 @@ decimal-at-spec =
     tie.close
     (tie.spec
     returns
-    shared-slice-read-b
+    (λ c. search needs)
     returns-2
     returns-3
-    add-t8
+    (λ c. search needs)
     returns-4
-    add-digits-from
-    cast-digits-from
-    digits-from-requires
+    (λ c. search needs)
+    (λ c. search needs)
+    (λ c κs. search needs)
     returns-5)

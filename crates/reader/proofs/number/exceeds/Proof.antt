@@ -8,11 +8,8 @@ use Rattle.reader.proofs.number.exceeds.Tie as tie
 returns : tie.Need-returns
 returns c = let a = c .before .args in exceeds-not (a .v) (a .d) (search needs) (c .if1 .taken)
 
-sub-result : tie.Need-sub-result
-sub-result c = search needs
-
 returns-2 : tie.Need-returns-2
 returns-2 c = let a = c .before .args in exceeds-by (a .v) (a .d) (search needs)
 
 pub exceeds-spec : {M : Type 1} → statement M
-exceeds-spec = tie.close (tie.spec returns sub-result returns-2)
+exceeds-spec = tie.close (tie.spec returns (λ c. search needs) returns-2)

@@ -9,15 +9,6 @@ use borrow.Author.Needs.{needs}
 use Rattle.reader.proofs.number.number_at.Statement.{statement}
 use Rattle.reader.proofs.number.number_at.Tie as tie
 
-decimal-at-requires : tie.Need-decimal-at-requires
-decimal-at-requires c κs = search needs
-
-enum-known-d : tie.Need-enum-known-d
-enum-known-d c = search needs
-
-outside-requires : tie.Need-outside-requires
-outside-requires c κs = search needs
-
 returns : tie.Need-returns
 returns c =
     let d = c .before .before .decimal-at in
@@ -26,18 +17,12 @@ returns c =
     (number-refused (a .low) (a .high) (a .s .now) (a .at) (omega arith) (d .result) (d .ensures)
     (λ v e q. ⊎-elim (λ p. absurd (let z : ⊥ = omega arith in z)) (λ p. absurd (let z : ⊥ = omega arith in z)) (rw q at (c .before .match .keys2))))
 
-outside-requires-2 : tie.Need-outside-requires-2
-outside-requires-2 c κs = search needs
-
 returns-2 : tie.Need-returns-2
 returns-2 c =
     let g = c .before .before .before .d .given in
     let a = c .before .before .before .before .before .before .before .args in
     let got = decimal-got decimal (a .s .now) (a .at) (g .1) (c .before .before .before .before .before .decimal-at .ensures) in
     rw (c .outside2 .ensures) (inl (refl, record { value = g .0 .0; outside = within-below (a .low) (a .high) (g .0 .0) (c .before .if1 .taken); taken = got }))
-
-outside-requires-3 : tie.Need-outside-requires-3
-outside-requires-3 c κs = search needs
 
 returns-3 : tie.Need-returns-3
 returns-3 c =
@@ -56,12 +41,12 @@ pub number-at-spec : {M : Type 1} → statement M
 number-at-spec =
     tie.close
     (tie.spec
-    decimal-at-requires
-    enum-known-d
-    outside-requires
+    (λ c κs. search needs)
+    (λ c. search needs)
+    (λ c κs. search needs)
     returns
-    outside-requires-2
+    (λ c κs. search needs)
     returns-2
-    outside-requires-3
+    (λ c κs. search needs)
     returns-3
     returns-4)

@@ -6,15 +6,6 @@ use borrow.Author.Needs.{needs}
 use Rattle.reader.proofs.number.outside.Statement.{statement}
 use Rattle.reader.proofs.number.outside.Tie as tie
 
-enum-known-d : tie.Need-enum-known-d
-enum-known-d c = search needs
-
-enum-known-d-2 : tie.Need-enum-known-d-2
-enum-known-d-2 c = search needs
-
-enum-known-d-3 : tie.Need-enum-known-d-3
-enum-known-d-3 c = search needs
-
 returns : tie.Need-returns
 returns c = sym (ap outsideOf (c .before .d .given .1))
 
@@ -26,4 +17,4 @@ returns-3 c = sym (ap outsideOf (c .before .d3 .given .1))
 
 pub outside-spec : {M : Type 1} → statement M
 outside-spec =
-    tie.close (tie.spec enum-known-d enum-known-d-2 enum-known-d-3 returns returns-2 returns-3)
+    tie.close (tie.spec (λ c. search needs) (λ c. search needs) (λ c. search needs) returns returns-2 returns-3)

@@ -8,7 +8,7 @@ use lib.ListN.{length, drop}
 use Rattle.ground.specs.Lists.{total}
 use Rattle.limits.specs.Limits.{variables}
 use Rattle.algebra.specs.Polynomial.{members}
-use Rattle.words.specs.Words.{number}
+use Rattle.words.specs.Words.{numberOf}
 use Rattle.terms.specs.Terms.{decode}
 use Rattle.writer.specs.Writing.{termRoom, room}
 use Rattle.writer.proofs.Runs.{room-start, room-more, room-end, room-most}
@@ -26,10 +26,10 @@ loop-holds : tie.Need-loop-holds Inv-loop μ-loop
 loop-holds c = (omega arith, room-start (c .before .args .n) (c .before .args .s .now))
 
 mul-sum : tie.Need-mul-sum Inv-loop μ-loop
-mul-sum c = record { fits = omega (arith, c .count .ensures, members-few variables 0 (number (c .before .set-of .result))) }
+mul-sum c = record { fits = omega (arith, c .count .ensures, members-few variables 0 (numberOf (c .before .set-of .result))) }
 
 add-sum : tie.Need-add-sum Inv-loop μ-loop
-add-sum c = record { fits = omega (arith, c .count .ensures, members-few variables 0 (number (c .before .set-of .result))) }
+add-sum c = record { fits = omega (arith, c .count .ensures, members-few variables 0 (numberOf (c .before .set-of .result))) }
 
 add-sum-2 : tie.Need-add-sum-2 Inv-loop μ-loop
 add-sum-2 c =

@@ -8,14 +8,14 @@ use lib.ListN.{length}
 use Rattle.limits.specs.Limits.{setWords, variables}
 use Rattle.ground.specs.Lists.{gather}
 use Rattle.algebra.specs.Polynomial.{members}
-use Rattle.words.specs.Words.{number}
+use Rattle.words.specs.Words.{numberOf}
 use Rattle.writer.specs.Writing.{dotted}
 use Rattle.writer.proofs.Pieces.{setRest, set-start, set-length-more, set-end, set-most}
 use Rattle.writer.proofs.measure.set_length.Statement.{statement}
 use Rattle.writer.proofs.measure.set_length.Tie as tie
 
 abbrev Inv-loop : tie.InvT-loop
-Inv-loop a sum₀ i₀ sum i = (i ≤ setWords) × (sum + length (setRest a i) ≡ length (gather dotted (members variables 0 (number a))))
+Inv-loop a sum₀ i₀ sum i = (i ≤ setWords) × (sum + length (setRest a i) ≡ length (gather dotted (members variables 0 (numberOf a))))
 
 abbrev μ-loop : tie.MeasureT-loop
 μ-loop a sum₀ i₀ sum i = setWords - i
@@ -27,7 +27,7 @@ add-sum : tie.Need-add-sum Inv-loop μ-loop
 add-sum c =
     let a = c .before .before .before .args .t1 in
     let l = c .before .before .loop in
-    record { fits = omega (arith, c .word-length .ensures, set-length-more a (l .i) (λ i. search needs) (search needs), set-most (number a)) }
+    record { fits = omega (arith, c .word-length .ensures, set-length-more a (l .i) (λ i. search needs) (search needs), set-most (numberOf a)) }
 
 loop-again : tie.Need-loop-again Inv-loop μ-loop
 loop-again c =

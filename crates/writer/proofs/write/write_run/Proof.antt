@@ -11,14 +11,16 @@ use Rattle.writer.proofs.write.write_run.Tie as tie
 
 slice-write-out : tie.Need-slice-write-out
 slice-write-out c =
-    let a = c .before .before .before .args in
-    omega (arith, ap length (run-none (a .k) (a .n) (a .s .now) (c .if1 .taken)))
+    let b = c .before .before .before in
+    let a = b .args in
+    omega (arith, b .pre .4, ap length (run-none (a .k) (a .n) (a .s .now) (c .if1 .taken)))
 
 returns : tie.Need-returns
 returns c =
-    let a = c .before .before .before .args in
+    let b = c .before .before .before in
+    let a = b .args in
     let e = run-none (a .k) (a .n) (a .s .now) (c .if1 .taken) in
-    wrote-as (sym e) (wrote-byte (a .out .now) 0 48 (omega (arith, ap length e)))
+    wrote-as (sym e) (wrote-byte (a .out .now) (a .at) 48 (omega (arith, b .pre .4, ap length e)))
 
 write-term-requires : tie.Need-write-term-requires
 write-term-requires c κs =
@@ -55,5 +57,5 @@ returns-2 c =
 
 pub write-run-spec : {M : Type 1} → statement M
 write-run-spec =
-    tie.close (tie.spec slice-write-out (λ c. search needs) returns (λ c κs. search needs) write-term-requires write-rest-requires
+    tie.close (tie.spec slice-write-out (λ c. search needs) (λ c. search needs) returns (λ c κs. search needs) write-term-requires write-rest-requires
     (λ c. search needs) returns-2)

@@ -7,7 +7,7 @@ use lib.ListN.{getD}
 use Rattle.limits.specs.Limits.{setWords, variables}
 use Rattle.ground.specs.Lists.{gather}
 use Rattle.algebra.specs.Polynomial.{members}
-use Rattle.words.specs.Words.{number}
+use Rattle.words.specs.Words.{numberOf}
 use Rattle.writer.specs.Writing.{dotted}
 use Rattle.writer.proofs.Written.{Left, left-start, left-as, left-more, left-room, left-end}
 use Rattle.writer.proofs.Pieces.{setRest, set-start, set-more, set-end}
@@ -15,7 +15,7 @@ use Rattle.writer.proofs.write.write_set.Statement.{statement}
 use Rattle.writer.proofs.write.write_set.Tie as tie
 
 abbrev Inv-loop : tie.InvT-loop
-Inv-loop out₀ at a end₀ i₀ out end i = (i ≤ setWords) × Left out₀ at (gather dotted (members variables 0 (number a))) out end (setRest a i)
+Inv-loop out₀ at a end₀ i₀ out end i = (i ≤ setWords) × Left out₀ at (gather dotted (members variables 0 (numberOf a))) out end (setRest a i)
 
 abbrev μ-loop : tie.MeasureT-loop
 μ-loop out₀ at a end₀ i₀ out end i = setWords - i
@@ -23,7 +23,7 @@ abbrev μ-loop : tie.MeasureT-loop
 loop-holds : tie.Need-loop-holds Inv-loop μ-loop
 loop-holds c =
     let a = c .before .args in
-    (omega arith, left-as (set-start (a .t3) (search needs)) (left-start (a .out .now) (a .at) (gather dotted (members variables 0 (number (a .t3))))))
+    (omega arith, left-as (set-start (a .t3) (search needs)) (left-start (a .out .now) (a .at) (gather dotted (members variables 0 (numberOf (a .t3))))))
 
 write-word-requires : tie.Need-write-word-requires Inv-loop μ-loop
 write-word-requires c κs =

@@ -4,7 +4,7 @@ use Prim.Native.Nat.{_+_, _≤_}
 use native.Mathlib.Omega.{arith}
 use lib.ListN.{length, getD}
 use Rattle.limits.specs.Limits.{storedPolynomials}
-use Rattle.table.specs.Steps.{FirstAt}
+use Rattle.table.specs.Columns.{FirstAt}
 use Rattle.table.proofs.Laws.{found-at, found-nothing}
 use Rattle.table.proofs.Packing.{ends-used, closable-starts}
 use Rattle.table.proofs.Forgetting.{forgotten}

@@ -36,29 +36,29 @@ module _ (capacity : ℕ) where
     step : {s e : State} {sts : List Statement} (st : Statement) → first (rules capacity s st) ≡ 0 → Steps (after s st) sts e → Steps s (st ∷ sts) e
 
   -- ---- one item
-  abbrev Judged : State → Read Statement → Outcome → Type 0
-  Judged s (got st r) (stands s′) = (first (rules capacity s st) ≡ 0) × (s′ ≡ after s st)
-  Judged s (stuck r) (stands s′) = ⊥
-  Judged s r (refused v i) = 0 < v
+  abbrev Heard : State → Read Statement → Outcome → Type 0
+  Heard s (got st r) (stands s′) = (first (rules capacity s st) ≡ 0) × (s′ ≡ after s st)
+  Heard s (stuck r) (stands s′) = ⊥
+  Heard s r (refused v i) = 0 < v
 
-  judged-read : (s : State) (r : Read Statement) → Judged s r (elim r [ got st t ↦ judge capacity s st | stuck t ↦ refused FORM 0 ])
+  judged-read : (s : State) (r : Read Statement) → Heard s r (elim r [ got st t ↦ judge capacity s st | stuck t ↦ refused FORM 0 ])
   unfolding judge
   judged-read s (got st r) =
-      by-cond (Judged s (got st r)) (eqb (first (rules capacity s st)) 0)
+      by-cond (Heard s (got st r)) (eqb (first (rules capacity s st)) 0)
       (λ e. (eqb-true (first (rules capacity s st)) 0 e, refl))
       (λ e. positive (first (rules capacity s st)) (eqb-false (first (rules capacity s st)) 0 e))
   judged-read s (stuck r) = omega arith
 
-  judged : (s : State) (i : Item) → Judged s (i .reads) (judgeItem capacity s i)
+  judged : (s : State) (i : Item) → Heard s (i .reads) (judgeItem capacity s i)
   unfolding judgeItem
-  judged s i = by-cond (Judged s (i .reads)) (i .long) (λ e. long (i .reads)) (λ e. judged-read s (i .reads))
+  judged s i = by-cond (Heard s (i .reads)) (i .long) (λ e. long (i .reads)) (λ e. judged-read s (i .reads))
     where
-      long : (r : Read Statement) → Judged s r (refused LONGLINE 0)
+      long : (r : Read Statement) → Heard s r (refused LONGLINE 0)
       long (got st r) = omega arith
       long (stuck r) = omega arith
 
   -- ---- all items: those that stood, what is heard of them, and the answer
-  pub record Ran (s : State) (heard : List Statement → List Statement) (read : List Statement) (a : Answer) : Type 0 where
+  pub record Course (s : State) (heard : List Statement → List Statement) (read : List Statement) (a : Answer) : Type 0 where
     pub last : State
     pub sts : List Statement
     pub went : Steps s sts last
@@ -70,7 +70,7 @@ module _ (capacity : ℕ) where
     pub reached : a .verdict ≡ 0 → last .reached ≡ true
     pub all : a .verdict ≡ 0 → sts ≡ read
 
-  stopped : (s : State) (read : List Statement) (v n i : ℕ) → 0 < v → Ran s (λ h. h) read (report s v n i)
+  stopped : (s : State) (read : List Statement) (v n i : ℕ) → 0 < v → Course s (λ h. h) read (report s v n i)
   unfolding report
   stopped s read v n i h = record {
     last = s;
@@ -86,7 +86,7 @@ module _ (capacity : ℕ) where
   }
 
   -- what is accepted has reached its goal
-  won : (s : State) → s .phase ≡ steps → s .reached ≡ true → Ran s (λ h. h) [] (report s ACCEPTED 0 0)
+  won : (s : State) → s .phase ≡ steps → s .reached ≡ true → Course s (λ h. h) [] (report s ACCEPTED 0 0)
   unfolding report
   won s p r = record {
     last = s;
@@ -101,16 +101,16 @@ module _ (capacity : ℕ) where
     all = λ z. refl;
   }
 
-  ended : (s : State) (n : ℕ) → Ran s (λ h. h) [] (ending s n)
+  ended : (s : State) (n : ℕ) → Course s (λ h. h) [] (ending s n)
   unfolding ending
   ended s n =
-      by-cond (Ran s (λ h. h) []) _
-      (λ e. by-cond (Ran s (λ h. h) []) _ (λ f. won s (eqb-true (s .phase) steps e) f) (λ f. stopped s [] NOTREACHED n 0 (omega arith)))
+      by-cond (Course s (λ h. h) []) _
+      (λ e. by-cond (Course s (λ h. h) []) _ (λ f. won s (eqb-true (s .phase) steps e) f) (λ f. stopped s [] NOTREACHED n 0 (omega arith)))
       (λ e. stopped s [] NOGOAL n 0 (omega arith))
 
-  module _ (s : State) (n : ℕ) (is : List Item) (rest : (s′ : State) → Ran s′ (λ h. acceptedFrom capacity s′ h is) (statementsOf is) (run capacity s′ n is)) where
-    onward : (r : Read Statement) (o : Outcome) → Judged s r o
-        → Ran s (λ h. elim o [ stands s′ ↦ acceptedFrom capacity s′ (ifRead r ++ h) is | refused v i ↦ h ]) (ifRead r ++ statementsOf is)
+  module _ (s : State) (n : ℕ) (is : List Item) (rest : (s′ : State) → Course s′ (λ h. acceptedFrom capacity s′ h is) (statementsOf is) (run capacity s′ n is)) where
+    onward : (r : Read Statement) (o : Outcome) → Heard s r o
+        → Course s (λ h. elim o [ stands s′ ↦ acceptedFrom capacity s′ (ifRead r ++ h) is | refused v i ↦ h ]) (ifRead r ++ statementsOf is)
         (elim o [ stands s′ ↦ run capacity s′ n is | refused v i ↦ report s v n i ])
     onward (got st r) (stands s′) j =
         let f = rest s′ in
@@ -130,7 +130,7 @@ module _ (capacity : ℕ) where
     onward (got st r) (refused v i) j = stopped s (st ∷ statementsOf is) v n i j
     onward (stuck r) (refused v i) j = stopped s (statementsOf is) v n i j
 
-  pub ran : (s : State) (n : ℕ) (is : List Item) → Ran s (λ h. acceptedFrom capacity s h is) (statementsOf is) (run capacity s n is)
+  pub ran : (s : State) (n : ℕ) (is : List Item) → Course s (λ h. acceptedFrom capacity s h is) (statementsOf is) (run capacity s n is)
   unfolding run acceptedFrom statementsOf gather
   ran s n [] = ended s n
   ran s n (i ∷ is) = onward s (suc n) is (λ s′. ran s′ (suc n) is) (i .reads) (judgeItem capacity s i) (judged s i)
