@@ -1,4 +1,4 @@
--- The contract of `write_run` decides its result and the output. Assumes nothing.
+-- The contract `Wrote` decides the result and the output. Assumes nothing.
 use mathlib.Core.Path.{_≡_, sym, _∙_}
 use Prim.Native.Nat.{ℕ}
 use Rattle.paper.specs.Grammar.{Bytes}

@@ -1,9 +1,10 @@
 -- Bytes written into an output, and the pieces of a spelling.
 use mathlib.Core.Path.{_≡_}
-use mathlib.Core.Bool.{cond}
+use mathlib.Core.Bool.{true, false, cond}
 use mathlib.Core.List.{_∷_, _++_}
-use Prim.Native.Nat.{ℕ, _+_, _*_, _^_, _<_}
+use Prim.Native.Nat.{ℕ, _+_, _-_, _*_, _^_, _<_}
 use Prim.Native.Char.{code}
+use lib.Dec.{leb}
 use lib.ListN.{length, take, drop, getD}
 use Rattle.ground.specs.Lists.{total}
 use Rattle.limits.specs.Limits.{variables}
@@ -29,6 +30,10 @@ dotted v = code "." ∷ spellNumber v
 
 abbrev pub spaced : ℕ → Term → Bytes
 spaced k t = code " " ∷ spellTerm k t
+
+-- the sign and the magnitude that c is written with at k
+unfoldable pub signedOf : ℕ → ℕ → Signed
+signedOf k c = cond (leb c (2 ^ (k - 1))) (record { minus = false; magnitude = c }) (record { minus = true; magnitude = 2 ^ k - c })
 
 abbrev pub spellSigned : Signed → Bytes
 spellSigned s = cond (s .minus) (code "-" ∷ spellNumber (s .magnitude)) (spellNumber (s .magnitude))

@@ -4,7 +4,6 @@ use mathlib.Core.Path.{ap}
 use native.Mathlib.Omega.{arith}
 use borrow.Author.Needs.{needs}
 use lib.ListN.{length}
-use Rattle.paper.specs.Spelling.{spellCoefficient}
 use Rattle.writer.proofs.Signs.{signed-minus, signed-plus}
 use Rattle.writer.proofs.Digits.{word-digits}
 use Rattle.writer.proofs.measure.coefficient_length.Statement.{statement}
@@ -21,14 +20,14 @@ returns c =
     let n = c .before .number-length in
     let s = c .before .before .with-sign in
     let a = c .before .before .before .args in
-    omega (arith, n .ensures, ap length (signed-minus (s .result) (spellCoefficient (a .k) (a .c)) (s .ensures) (c .if1 .taken)))
+    omega (arith, n .ensures, ap length (signed-minus (a .k) (a .c) (s .result) (s .ensures) (c .if1 .taken)))
 
 returns-2 : tie.Need-returns-2
 returns-2 c =
     let n = c .before .number-length in
     let s = c .before .before .with-sign in
     let a = c .before .before .before .args in
-    omega (arith, n .ensures, ap length (signed-plus (s .result) (spellCoefficient (a .k) (a .c)) (s .ensures) (c .if1 .left)))
+    omega (arith, n .ensures, ap length (signed-plus (a .k) (a .c) (s .result) (s .ensures) (c .if1 .left)))
 
 pub coefficient-length-spec : {M : Type 1} → statement M
 coefficient-length-spec = tie.close (tie.spec (λ c κs. search needs) (λ c κs. search needs) add-result returns returns-2)

@@ -4,7 +4,6 @@ use mathlib.Core.Path.{ap, _∙_}
 use native.Mathlib.Omega.{arith}
 use borrow.Author.Needs.{needs}
 use lib.ListN.{length, length-set}
-use Rattle.paper.specs.Spelling.{spellCoefficient}
 use Rattle.writer.proofs.Written.{wrote-as, wrote-byte, wrote-both}
 use Rattle.writer.proofs.Signs.{signed-minus, signed-plus}
 use Rattle.writer.proofs.write.write_coefficient.Statement.{statement}
@@ -14,13 +13,13 @@ slice-write-out : tie.Need-slice-write-out
 slice-write-out c =
     let s = c .before .with-sign in
     let a = c .before .before .before .args in
-    omega (arith, ap length (signed-minus (s .result) (spellCoefficient (a .k) (a .c)) (s .ensures) (c .if1 .taken)))
+    omega (arith, ap length (signed-minus (a .k) (a .c) (s .result) (s .ensures) (c .if1 .taken)))
 
 write-number-requires : tie.Need-write-number-requires
 write-number-requires c κs =
     let s = c .before .before .with-sign in
     let a = c .before .before .before .before .args in
-    let w = ap length (signed-minus (s .result) (spellCoefficient (a .k) (a .c)) (s .ensures) (c .before .if1 .taken)) in
+    let w = ap length (signed-minus (a .k) (a .c) (s .result) (s .ensures) (c .before .if1 .taken)) in
     simp length-set (omega (arith, w))
 
 same-length : tie.Need-same-length
@@ -30,20 +29,20 @@ returns : tie.Need-returns
 returns c =
     let s = c .before .before .before .before .before .with-sign in
     let a = c .before .before .before .before .before .before .before .args in
-    let w = signed-minus (s .result) (spellCoefficient (a .k) (a .c)) (s .ensures) (c .before .before .before .before .if1 .taken) in
+    let w = signed-minus (a .k) (a .c) (s .result) (s .ensures) (c .before .before .before .before .if1 .taken) in
     wrote-as w (wrote-both (omega arith) (wrote-byte (a .out .now) (a .at) 45 (omega (arith, ap length w))) (c .before .before .write-number .ensures))
 
 write-number-requires-2 : tie.Need-write-number-requires-2
 write-number-requires-2 c κs =
     let s = c .before .before .with-sign in
     let a = c .before .before .before .before .args in
-    omega (arith, ap length (signed-plus (s .result) (spellCoefficient (a .k) (a .c)) (s .ensures) (c .before .if1 .left)))
+    omega (arith, ap length (signed-plus (a .k) (a .c) (s .result) (s .ensures) (c .before .if1 .left)))
 
 returns-2 : tie.Need-returns-2
 returns-2 c =
     let s = c .before .before .before .before .before .with-sign in
     let a = c .before .before .before .before .before .before .before .args in
-    wrote-as (signed-plus (s .result) (spellCoefficient (a .k) (a .c)) (s .ensures) (c .before .before .before .before .if1 .left)) (c .before .before .write-number2 .ensures)
+    wrote-as (signed-plus (a .k) (a .c) (s .result) (s .ensures) (c .before .before .before .before .if1 .left)) (c .before .before .write-number2 .ensures)
 
 pub write-coefficient-spec : {M : Type 1} → statement M
 write-coefficient-spec =
