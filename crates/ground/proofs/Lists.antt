@@ -1,5 +1,5 @@
 -- Tests along a list, its parts, and a list of zeros. Assumes nothing.
-use mathlib.Core.Path.{_≡_, refl, sym, ap, ap₂, _∙_}
+use mathlib.Core.Path.{_≡_, refl, sym, ap, _∙_}
 use mathlib.Core.Bool.{Bool, true, false, _&&_, and-true}
 use mathlib.Core.List.{List, [], _∷_, _++_}
 use Prim.Native.Nat.{ℕ, zero, suc, _+_, _-_, _≤_}
@@ -20,9 +20,9 @@ every-append f (x ∷ xs) ys = go (f x) (every-append f xs ys)
     go false ih = refl
 
 -- one more at the end
-pub every-more : {A : Type 0} (f : A → Bool) (xs : List A) (x : A) (a b : Bool) → a ≡ every f xs → b ≡ f x → (a && b) ≡ every f (xs ++ (x ∷ []))
+pub every-more : {A : Type 0} (f : A → Bool) (xs : List A) (x : A) → every f (xs ++ (x ∷ [])) ≡ (every f xs && f x)
 unfolding every
-every-more f xs x a b p q = rw (every-append f xs (x ∷ [])) (ap₂ _&&_ p (q ∙ sym (and-true (f x))))
+every-more f xs x = every-append f xs (x ∷ []) ∙ ap (λ (b : Bool). every f xs && b) (and-true (f x))
 
 -- ---- parts
 -- fewer elements of lists that agree agree

@@ -2,7 +2,7 @@
 use mathlib.Core.Path.{_≡_, refl, sym, ap, subst, _∙_}
 use mathlib.Core.Bool.{Bool, true, false, _&&_, cond}
 use mathlib.Core.Logic.{_⊎_, inl, inr, ⊎-elim}
-use mathlib.Core.List.{List, [], _∷_}
+use mathlib.Core.List.{[], _∷_}
 use Prim.Native.Nat.{ℕ, _≤_, _<_}
 use native.Mathlib.Omega.{arith}
 use lib.Dec.{eqb, ltb}
@@ -19,11 +19,8 @@ use Rattle.paper.specs.Grammar.{Bytes, bytes, Line, Read, got, stuck, Reader, n
 use Rattle.paper.specs.Statement.{modulo, Statement, ring, input, goal, lin, del, ext, within, isIndex, isVariable, inRange, numbersInRange}
 use Rattle.paper.specs.Answer.{Outcome, stands, refused, indexOf, judge, judgeItem, itemOf}
 use Rattle.paper.proofs.Reading.{clash, parted}
-use Rattle.lines.specs.Parts.{always, keyed, pairRanged, Taken, NumberPart, verdictOf}
-use Rattle.lines.specs.Judged.{indexOfRead, LineJudged}
-use Rattle.steps.specs.declared.state.State.{State}
-use Rattle.steps.specs.declared.state.Step.{Step}
-use Rattle.steps.specs.State.{stateOf}
+use Rattle.steps.specs.Items.{verdictOf, indexOfRead}
+use Rattle.lines.specs.Parts.{always, keyed, pairRanged, Taken, NumberPart}
 use Rattle.lines.specs.declared.part.NumberRead.{NumberRead}
 use Rattle.lines.proofs.LineKinds.{no-kind}
 use Rattle.lines.proofs.Statements.{ranged-input, ranged-lin, ranged-del, ranged-ext}
@@ -161,7 +158,7 @@ module _ (s : Bytes) (h : 0 < length s) where
   no-index i l d x st t q =
       ⊎-elim (λ e. ring-none (of-kind 114 ringLine (λ v. refl) (eqb-true (getD s 0 0) 114 e) q))
       (λ r. ⊎-elim (λ e. goal-none (of-kind 103 goalLine (λ v. refl) (eqb-true (getD s 0 0) 103 e) q))
-      (λ g. absurd (clash (sym (no-kind s [] h (eqb-false (getD s 0 0) 114 r) i (eqb-false (getD s 0 0) 103 g) l d x) ∙ q)))
+      (λ g. absurd (clash (sym (no-kind s h (eqb-false (getD s 0 0) 114 r) i (eqb-false (getD s 0 0) 103 g) l d x) ∙ q)))
       (split (eqb (getD s 0 0) 103)))
       (split (eqb (getD s 0 0) 114))
 
@@ -204,7 +201,6 @@ item-read capacity s l =
     go (got st t) = judge-read capacity s st t (split (numbersInRange st))
     go (stuck t) = λ m. absurd (let z : ⊥ = omega arith in z)
 
-pub refused-read : {capacity : ℕ} {l : Line} {s : State} {pool scratch : List ℕ} {r : Step} {pool′ scratch′ : List ℕ}
-    → LineJudged capacity l s pool scratch r pool′ scratch′ → (r .verdict ≡ 0 → ⊥) → TERMS ≤ r .verdict
+pub refused-read : (capacity : ℕ) (s : paper.State) (l : Line) {v i : ℕ} → judgeItem capacity s (itemOf l) ≡ refused v i → TERMS ≤ v
     → (st : Statement) × (t : Bytes) × (statement l ≡ got st t) × (numbersInRange st ≡ true)
-refused-read {capacity} {l} {s} {pool} {scratch} j n = subst (WasRead (statement l)) (j .refused n) (item-read capacity (stateOf s pool scratch) l)
+refused-read capacity s l e = subst (WasRead (statement l)) e (item-read capacity s l)

@@ -4,7 +4,4 @@ pub mod Walking
 pub mod LineKinds
 pub mod Statements
 pub mod KindParts
-pub mod Judging
-pub mod Arms
 pub mod Indexing
-pub mod Decided

@@ -2,39 +2,36 @@
 use mathlib.Core.Path.{_≡_, refl, sym, ap, _∙_, subst}
 use mathlib.Core.Bool.{Bool, true, false}
 use mathlib.Core.List.{List, [], _∷_}
-use mathlib.Core.Logic.{inl, inr, ⊎-elim}
 use Prim.Native.Nat.{ℕ, suc, _≤_, _<_}
 use native.Mathlib.Omega.{arith}
 use lib.Dec.{eqb, ltb}
 use lib.ListN.{length, drop, getD, drop-of-length-le}
-use lib.Seq.{drop-cons, drop-length}
+use lib.Seq.{drop-cons}
 use borrow.Author.Tests.{ltb-true, ltb-false, lt-ltb, le-ltb, eqb-true, eqb-false, eq-eqb, ne-eqb}
 use Rattle.ground.proofs.Tests.{by-cond}
-use Rattle.limits.specs.Verdicts.{ACCEPTED, FORM}
+use Rattle.limits.specs.Limits.{lineBytes}
+use Rattle.limits.specs.Verdicts.{ACCEPTED, LONGLINE, FORM}
 use Rattle.words.specs.Parts.{Within}
 use Rattle.words.proofs.Parts.{within-refl}
-use Rattle.paper.specs.Grammar.{Bytes, bytes, Read, got, stuck, Reader, next, give, literal, end, LineKind, wholeLine, kinds, beginsAlike, oneOf, statement}
+use Rattle.paper.specs.Grammar.{Bytes, bytes, Line, Read, got, stuck, Reader, next, give, literal, end, LineKind, wholeLine, kinds, beginsAlike, oneOf, statement}
 use Rattle.paper.specs.Statement.{Statement, numbersInRange}
+use Rattle.paper.specs.Rules.{Store}
+use Rattle.paper.specs.Answer.{Item, itemOf}
 use Rattle.paper.proofs.Reading.{next-assoc}
 use Rattle.reader.specs.Places.{Got, Fails}
 use Rattle.reader.specs.Keywords.{WordIs}
 use Rattle.reader.specs.declared.keyword.Word.{Word}
 use Rattle.reader.specs.declared.keyword.Word.the-variants.{Read as Known, Refused as Unknown}
 use Rattle.reader.proofs.Following.{got-then, fails-then, fails-first, got-give}
-use Rattle.scratch.specs.Scratch.{statedAt, goalAt}
+use Rattle.scratch.specs.Scratch.{goalAt}
+use Rattle.sums.specs.declared.Sum.{Sum}
+use Rattle.steps.specs.declared.said.Said.{Said}
+use Rattle.steps.specs.declared.said.Said.the-variants.{Refused}
+use Rattle.steps.specs.declared.said.ItemRead.{ItemRead}
+use Rattle.steps.specs.Items.{fewInFields, Means, Tells, long, stops, turns, passes, ItemIs}
 use Rattle.lines.specs.Parts.{Taken, keyed}
-use Rattle.lines.specs.Lines.{fewInFields, Is, closedOf, KindIs, LineIs}
-use Rattle.lines.specs.declared.read.LineRead.{LineRead}
-use Rattle.lines.specs.declared.read.LineRead.the-variants.{Refused}
+use Rattle.lines.specs.Lines.{closedOf, KindIs}
 use Rattle.lines.proofs.Parts.{verdict-accepted}
-
--- ---- one reader as another
-module _ {A : Type 0} {read read′ : Reader A} {s : Bytes} {at : ℕ} (q : read′ (drop at s) ≡ read (drop at s)) where
-  pub got-as : {x : A} {e : ℕ} → Got read s at x e → Got read′ s at x e
-  got-as g = record { reads = q ∙ g .reads; onward = g .onward; inside = g .inside }
-
-  pub fails-as : {p : ℕ} → Fails read s at p → Fails read′ s at p
-  fails-as g = record { reads = q ∙ g .reads; onward = g .onward; inside = g .inside }
 
 -- ---- keywords
 module _ {read : Reader (Unit {0})} {s : Bytes} {at : ℕ} {k : Word} (w : WordIs read s at k) where
@@ -55,7 +52,7 @@ module _ (s : Bytes) (e : ℕ) where
   end-here h l = record { reads = rw (drop-of-length-le s h); onward = omega arith; inside = l }
 
 -- ---- what was read, closed
-module _ (n e why : ℕ) (r : LineRead) where
+module _ (n e why : ℕ) (r : Said) where
   pub closed-short : e < n → Refused FORM ≡ closedOf n e why r
   unfolding closedOf
   closed-short h = rw (lt-ltb e n h)
@@ -70,99 +67,89 @@ module _ (n e why : ℕ) (r : LineRead) where
 
 -- ---- a line of one kind: its keyword with its fields, and then the end
 abbrev pub headedBy : LineKind → Reader Statement
-headedBy k = keyed (k .0) (k .1)
+headedBy kind = keyed (kind .0) (kind .1)
 
-closing : (k : LineKind) (s : Bytes) → wholeLine k s ≡ next (headedBy k s) (λ st t. next (end t) (λ _. give st))
-closing k s = sym (next-assoc (literal (k .0) s) (λ _. k .1) (λ st t. next (end t) (λ _. give st)))
+closing : (kind : LineKind) (s : Bytes) → wholeLine kind s ≡ next (headedBy kind s) (λ st t. next (end t) (λ _. give st))
+closing kind s = sym (next-assoc (literal (kind .0) s) (λ _. kind .1) (λ st t. next (end t) (λ _. give st)))
 
-module _ (k : LineKind) {s : Bytes} {words words′ : List ℕ} (kept : Within statedAt goalAt words words′) where
-  pub kind-stops : {why p : ℕ} → why ≡ FORM → Fails (headedBy k) s 0 p → KindIs k s words words′ (Refused why)
+-- all of it read, up to e
+module _ (kind : LineKind) {s : Bytes} {P : Statement → Type 0} {e why : ℕ} (t : Taken (headedBy kind) numbersInRange fewInFields P s 0 e why) where
+  short-read : e < length s → wholeLine kind s ≡ stuck (drop e s)
+  short-read h = closing kind s ∙ fails-then (headedBy kind) _ (t .taken) (fails-first end _ (end-not s e h)) .reads
+
+  all-read : length s ≤ e → wholeLine kind s ≡ got (t .value) (drop e s)
+  all-read h = let i = t .taken .inside in closing kind s ∙ got-then (headedBy kind) _ (t .taken) (got-then end _ (end-here s e h i) (got-give (t .value) i)) .reads
+
+module _ {k : ℕ} {store : Store} (kind : LineKind) {s : Bytes} {words words′ : List ℕ} {sum : Sum} (kept : Within 0 goalAt words words′) where
+  pub kind-stops : {why p : ℕ} → why ≡ FORM → Fails (headedBy kind) s 0 p → KindIs k store kind s words words′ sum (Refused why)
   kind-stops {why} {p} e f =
-      record { said = inl (record { form = ap (λ (v : ℕ). Refused v) e; stuck = (p, fails-as (closing k s) (fails-first (headedBy k) _ f)) }); kept = kept }
+      record { tells = stops refl (drop p s) (closing kind s ∙ fails-first (headedBy kind) _ f .reads) (ap (λ (v : ℕ). Refused v) e); kept = kept }
 
-  module _ (read : LineRead) {e why : ℕ} (t : Taken (headedBy k) numbersInRange fewInFields (λ st. e ≡ length s → Is s words′ st read) s 0 e why) where
-    stops-short : e < length s → KindIs k s words words′ (Refused FORM)
-    stops-short h =
-        record {
-          said = inl (record { form = refl; stuck = (e, fails-as (closing k s) (fails-then (headedBy k) _ (t .taken) (fails-first end _ (end-not s e h)))) });
-          kept = kept;
-        }
-
-    all-read : length s ≤ e → Got (wholeLine k) s 0 (t .value) (length s)
-    all-read h =
-        let i = t .taken .inside in
-        let q : e ≡ length s = omega arith in
-        subst (λ (n : ℕ). Got (wholeLine k) s 0 (t .value) n) q
-        (got-as (closing k s) (got-then (headedBy k) _ (t .taken) (got-then end _ (end-here s e h i) (got-give (t .value) i))))
-
-    stands : length s ≤ e → why ≡ ACCEPTED → KindIs k s words words′ read
+  module _ (read : Said) {e why : ℕ} (t : Taken (headedBy kind) numbersInRange fewInFields (λ st. Means k store words′ sum st read) s 0 e why) where
+    stands : length s ≤ e → why ≡ ACCEPTED → KindIs k store kind s words words′ sum read
     stands h a =
-        let i = t .taken .inside in
         let v = verdict-accepted (numbersInRange (t .value)) (fewInFields (t .value)) (sym (t .verdict) ∙ a) in
-        record {
-          said = inr (inr (record { value = t .value; read = all-read h; ranged = v .0; short = v .1; is = t .holds a (omega arith) }));
-          kept = kept;
-        }
+        record { tells = passes refl (t .value) (drop e s) (all-read kind t h) (v .0) (v .1) (t .holds a); kept = kept }
 
-    turned : length s ≤ e → (why ≡ ACCEPTED → ⊥) → KindIs k s words words′ (Refused why)
+    turned : length s ≤ e → (why ≡ ACCEPTED → ⊥) → KindIs k store kind s words words′ sum (Refused why)
     turned h n =
-        record {
-          said = inr (inl (record { value = t .value; read = all-read h; refused = ap (λ (v : ℕ). Refused v) (t .verdict); some = λ a. n (t .verdict ∙ a) }));
-          kept = kept;
-        }
+        record { tells = turns refl (t .value) (drop e s) (all-read kind t h) (ap (λ (v : ℕ). Refused v) (t .verdict)) (λ a. n (t .verdict ∙ a)); kept = kept }
 
-    pub kind-closes : {r : LineRead} → r ≡ closedOf (length s) e why read → KindIs k s words words′ r
+    pub kind-closes : {r : Said} → r ≡ closedOf (length s) e why read → KindIs k store kind s words words′ sum r
     unfolding closedOf
     kind-closes q =
-        subst (KindIs k s words words′) (sym q)
-        (by-cond (KindIs k s words words′) (ltb e (length s)) (λ h. stops-short (ltb-true e (length s) h))
+        subst is (sym q)
+        (by-cond is (ltb e (length s)) (λ h. record { tells = stops refl (drop e s) (short-read kind t (ltb-true e (length s) h)) refl; kept = kept })
         (λ h.
         let l = ltb-false e (length s) h in
-        by-cond (KindIs k s words words′) (eqb why ACCEPTED) (λ a. stands l (eqb-true why ACCEPTED a)) (λ a. turned l (eqb-false why ACCEPTED a))))
+        by-cond is (eqb why ACCEPTED) (λ a. stands l (eqb-true why ACCEPTED a)) (λ a. turned l (eqb-false why ACCEPTED a))))
+      where
+        is : Said → Type 0
+        is = KindIs k store kind s words words′ sum
+
+-- ---- what is handed on as it was said
+pub said-so : {k : ℕ} {store : Store} (i : Item) {words words′ : List ℕ} {r : ItemRead} {said : Said} → r .said ≡ said
+    → ItemIs k store i words words′ (record { said = said; sum = r .sum }) → ItemIs k store i words words′ r
+said-so {k} {store} i {words} {words′} {r} e h = subst (λ (x : Said). ItemIs k store i words words′ (record { said = x; sum = r .sum })) (sym e) h
 
 -- ---- any line: the first byte settles the kind
+abbrev lineOf : Bytes → Bool → Line
+lineOf s ended = record { content = s; ended = ended }
+
+-- a line that is not too long
+abbrev shortItem : Line → Item
+shortItem l = record { long = false; reads = statement l }
+
 begins : {s : Bytes} → 0 < length s → (b : ℕ) → getD s 0 0 ≡ b → s ≡ b ∷ drop 1 s
 begins {s} h b e = drop-cons s 0 0 h ∙ ap (λ (x : ℕ). x ∷ drop 1 s) e
 
-module _ {s : Bytes} {words words′ : List ℕ} {r : LineRead} where
-  line-of : (k : LineKind) → oneOf kinds s ≡ wholeLine k s → KindIs k s words words′ r → LineIs s true words words′ r
+pub no-kind : (s : Bytes) → 0 < length s → (getD s 0 0 ≡ 114 → ⊥) → (getD s 0 0 ≡ 105 → ⊥) → (getD s 0 0 ≡ 103 → ⊥) → (getD s 0 0 ≡ 108 → ⊥) → (getD s 0 0 ≡ 100 → ⊥)
+    → (getD s 0 0 ≡ 101 → ⊥) → statement (lineOf s true) ≡ stuck s
+unfolding statement kinds oneOf beginsAlike bytes
+no-kind s h r i g l d e =
+    let b : ℕ = getD s 0 0 in
+    let none : oneOf kinds (b ∷ drop 1 s) ≡ stuck (b ∷ drop 1 s) =
+    rw (ne-eqb b 114 r, ne-eqb b 105 i, ne-eqb b 103 g, ne-eqb b 108 l, ne-eqb b 100 d, ne-eqb b 101 e) in
+    subst (λ (l : Bytes). oneOf kinds l ≡ stuck l) (sym (drop-cons s 0 0 h)) none
+
+module _ {k : ℕ} {store : Store} (s : Bytes) {words : List ℕ} {r : ItemRead} where
+  pub kind-line : {words′ : List ℕ} (b : ℕ) (kind : LineKind) → ((w : Bytes) → oneOf kinds (b ∷ w) ≡ wholeLine kind (b ∷ w)) → 0 < length s → getD s 0 0 ≡ b
+      → KindIs k store kind s words words′ (r .sum) (r .said) → ItemIs k store (shortItem (lineOf s true)) words words′ r
   unfolding statement
-  line-of k here h =
-      record {
-        said =
-            ⊎-elim (λ a. inl (record { form = a .form; stuck = (drop (a .stuck .0) s, here ∙ a .stuck .1 .reads) }))
-            (λ b. inr (⊎-elim
-            (λ t. inl (record { value = t .value; read = ends (t .value) (t .read); refused = t .refused; some = t .some }))
-            (λ t. inr (record { value = t .value; read = ends (t .value) (t .read); ranged = t .ranged; short = t .short; is = t .is })) b))
-            (h .said);
-        kept = h .kept;
-      }
+  kind-line {words′} b kind first h e x =
+      record { tells = subst (λ (y : Read Statement). Tells k store (record { long = false; reads = y }) words′ (r .sum) (r .said)) (sym here) (x .tells); kept = x .kept }
     where
-      ends : (st : Statement) → Got (wholeLine k) s 0 st (length s) → oneOf kinds s ≡ got st []
-      ends st g = here ∙ g .reads ∙ ap (λ (l : Bytes). got st l) (drop-length s)
+      here : oneOf kinds s ≡ wholeLine kind s
+      here = subst (λ (l : Bytes). oneOf kinds l ≡ wholeLine kind l) (sym (begins h b e)) (first (drop 1 s))
 
-  pub kind-line : (b : ℕ) (k : LineKind) → ((w : Bytes) → oneOf kinds (b ∷ w) ≡ wholeLine k (b ∷ w)) → 0 < length s → getD s 0 0 ≡ b
-      → KindIs k s words words′ r → LineIs s true words words′ r
-  kind-line b k first h e = line-of k (subst (λ (l : Bytes). oneOf kinds l ≡ wholeLine k l) (sym (begins h b e)) (first (drop 1 s)))
-
-module _ (s : Bytes) (words : List ℕ) where
-  refused-line : (ended : Bool) (t : Bytes) → statement (record { content = s; ended = ended }) ≡ stuck t → LineIs s ended words words (Refused FORM)
-  refused-line ended t e = record { said = inl (record { form = refl; stuck = (t, e) }); kept = within-refl }
-
-  pub no-kind : 0 < length s → (getD s 0 0 ≡ 114 → ⊥) → (getD s 0 0 ≡ 105 → ⊥) → (getD s 0 0 ≡ 103 → ⊥) → (getD s 0 0 ≡ 108 → ⊥) → (getD s 0 0 ≡ 100 → ⊥)
-      → (getD s 0 0 ≡ 101 → ⊥) → statement (record { content = s; ended = true }) ≡ stuck s
-  unfolding statement kinds oneOf beginsAlike bytes
-  no-kind h r i g l d e =
-      let b : ℕ = getD s 0 0 in
-      let none : oneOf kinds (b ∷ drop 1 s) ≡ stuck (b ∷ drop 1 s) =
-      rw (ne-eqb b 114 r, ne-eqb b 105 i, ne-eqb b 103 g, ne-eqb b 108 l, ne-eqb b 100 d, ne-eqb b 101 e) in
-      subst (λ (l : Bytes). oneOf kinds l ≡ stuck l) (sym (drop-cons s 0 0 h)) none
+  refused-line : (ended : Bool) (t : Bytes) → statement (lineOf s ended) ≡ stuck t → r .said ≡ Refused FORM → ItemIs k store (shortItem (lineOf s ended)) words words r
+  refused-line ended t e q = record { tells = stops refl t e q; kept = within-refl }
 
   pub no-line : 0 < length s → (getD s 0 0 ≡ 114 → ⊥) → (getD s 0 0 ≡ 105 → ⊥) → (getD s 0 0 ≡ 103 → ⊥) → (getD s 0 0 ≡ 108 → ⊥) → (getD s 0 0 ≡ 100 → ⊥)
-      → (getD s 0 0 ≡ 101 → ⊥) → LineIs s true words words (Refused FORM)
-  no-line h r i g l d e = refused-line true s (no-kind h r i g l d e)
+      → (getD s 0 0 ≡ 101 → ⊥) → r .said ≡ Refused FORM → ItemIs k store (shortItem (lineOf s true)) words words r
+  no-line h r i g l d e = refused-line true s (no-kind s h r i g l d e)
 
-  pub empty-line : length s ≡ 0 → LineIs s true words words (Refused FORM)
+  pub empty-line : length s ≡ 0 → r .said ≡ Refused FORM → ItemIs k store (shortItem (lineOf s true)) words words r
   unfolding statement kinds oneOf beginsAlike bytes
   empty-line h = refused-line true [] (go s h)
     where
@@ -170,13 +157,24 @@ module _ (s : Bytes) (words : List ℕ) where
       go [] h = refl
       go (b ∷ s) h = absurd (let z : suc (length s) ≡ 0 = h in omega arith)
 
-  pub unended-line : (ended : Bool) → ended ≡ false → LineIs s ended words words (Refused FORM)
-  unfolding statement
-  unended-line ended e = let q = short-of (oneOf kinds s) in rw e (refused-line false (q .0) (q .1))
-    where
-      short-of : (x : Read Statement) → (t : Bytes) × (next {B = Statement} x (λ st r. stuck r) ≡ stuck t)
-      short-of (got y t) = (t, refl)
-      short-of (stuck t) = (t, refl)
+  -- ---- too long or not, ended or not
+  pub long-line : (ended : Bool) → lineBytes < length s → r .said ≡ Refused LONGLINE → ItemIs k store (itemOf (lineOf s ended)) words words r
+  unfolding itemOf
+  long-line ended h q = record { tells = long (lt-ltb lineBytes (length s) h) q; kept = within-refl }
 
-pub ended-line : {s : Bytes} {words words′ : List ℕ} {r : LineRead} (ended : Bool) → ended ≡ true → LineIs s true words words′ r → LineIs s ended words words′ r
-ended-line ended e h = rw e h
+  module _ (h : length s ≤ lineBytes) where
+    short-line : (ended : Bool) {words′ : List ℕ} → ItemIs k store (shortItem (lineOf s ended)) words words′ r → ItemIs k store (itemOf (lineOf s ended)) words words′ r
+    unfolding itemOf
+    short-line ended x = rw (le-ltb lineBytes (length s) h) x
+
+    pub ended-line : {words′ : List ℕ} (ended : Bool) → ended ≡ true → ItemIs k store (shortItem (lineOf s true)) words words′ r
+        → ItemIs k store (itemOf (lineOf s ended)) words words′ r
+    ended-line ended e x = rw e (short-line true x)
+
+    pub unended-line : (ended : Bool) → ended ≡ false → r .said ≡ Refused FORM → ItemIs k store (itemOf (lineOf s ended)) words words r
+    unfolding statement
+    unended-line ended e q = let x = short-of (oneOf kinds s) in rw e (short-line false (refused-line false (x .0) (x .1) q))
+      where
+        short-of : (x : Read Statement) → (t : Bytes) × (next {B = Statement} x (λ st r. stuck r) ≡ stuck t)
+        short-of (got y t) = (t, refl)
+        short-of (stuck t) = (t, refl)

@@ -6,7 +6,7 @@ use Prim.Native.Nat.{ℕ, _+_, _≤_, _<_}
 use native.Mathlib.Numerals.{add-one}
 use native.Mathlib.Omega.{arith}
 use lib.Dec.{eqb, ltb}
-use lib.ListN.{length, getD, drop-of-length-le}
+use lib.ListN.{length, drop, getD, drop-of-length-le}
 use lib.Seq.{drop-cons}
 use borrow.Author.Tests.{eqb-true, eqb-false, eq-eqb, ne-eqb, ltb-true, ltb-false}
 use Rattle.ground.proofs.Tests.{and-left, and-right, cond-yes, cond-no}
@@ -19,7 +19,8 @@ use Rattle.reader.specs.Numbers.{InRange}
 use Rattle.reader.specs.declared.number.Refusal.{Refusal}
 use Rattle.reader.proofs.Numbers.{within-yes, RefusedAs}
 use Rattle.reader.proofs.Following.{got-then, got-give, fails-then, fails-first}
-use Rattle.lines.specs.Parts.{verdictOf, lesserOf, always, Taken, Piece}
+use Rattle.steps.specs.Items.{verdictOf}
+use Rattle.lines.specs.Parts.{lesserOf, always, Taken, Piece}
 
 -- ---- verdicts
 -- of two parts
@@ -68,6 +69,14 @@ module _ (a b : ℕ) where
     pub lesser-first : (b ≡ NUMBER → ⊥) → a ≡ lesserOf a b
     unfolding lesserOf
     lesser-first g = sym (cond-no (eqb a ACCEPTED) b (cond (eqb b NUMBER) b a) (ne-eqb a ACCEPTED f) ∙ cond-no (eqb b NUMBER) b a (ne-eqb b NUMBER g))
+
+-- ---- one reader as another
+module _ {A : Type 0} {read read′ : Reader A} {s : Bytes} {at : ℕ} (q : read′ (drop at s) ≡ read (drop at s)) where
+  pub got-as : {x : A} {e : ℕ} → Got read s at x e → Got read′ s at x e
+  got-as g = record { reads = q ∙ g .reads; onward = g .onward; inside = g .inside }
+
+  pub fails-as : {p : ℕ} → Fails read s at p → Fails read′ s at p
+  fails-as g = record { reads = q ∙ g .reads; onward = g .onward; inside = g .inside }
 
 -- ---- a part: it stops, or it is read
 module _ {A : Type 0} {read : Reader A} {ranged few : A → Bool} {P : A → Type 0} {s : Bytes} {at e why : ℕ} where

@@ -7,7 +7,7 @@ use Rattle.ground.specs.Lists.{every, any}
 use Rattle.limits.specs.Limits.{greatestRing}
 use Rattle.paper.specs.Statement.{Written, Pair, modulo, ring, input, goal, lin, del, ext, newIndex, namedIndices, fields, within, isRing, isIndex, isVariable, inRange, numbersInRange, tooManyTerms}
 use Rattle.lines.specs.Parts.{fewTerms, pairRanged, pairFew}
-use Rattle.lines.specs.Lines.{fewInFields}
+use Rattle.steps.specs.Items.{fewInFields}
 
 not-or : (a b : Bool) → (not a && not b) ≡ not (a || b)
 not-or true b = refl

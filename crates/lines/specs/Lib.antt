@@ -1,3 +1,2 @@
 pub mod Parts
 pub mod Lines
-pub mod Judged

@@ -1,29 +1,26 @@
 -- What is read of the parts of a line.
 use mathlib.Core.Path.{_≡_}
 use mathlib.Core.Bool.{Bool, true, _&&_, not, cond}
-use mathlib.Core.List.{List, [], _∷_}
+use mathlib.Core.List.{List}
 use mathlib.Core.Logic.{_⊎_}
 use Prim.Native.Nat.{ℕ, _+_, _*_}
 use lib.Dec.{eqb}
-use lib.ListN.{length}
 use Rattle.ground.specs.Lists.{every}
 use Rattle.limits.specs.Limits.{fieldTerms, termWords}
-use Rattle.limits.specs.Verdicts.{ACCEPTED, FORM, NUMBER, TERMS}
+use Rattle.limits.specs.Verdicts.{ACCEPTED, FORM, NUMBER}
 use Rattle.words.specs.Parts.{Within}
 use Rattle.paper.specs.Grammar.{Bytes, Reader, next, literal, field, pair, pairs}
 use Rattle.paper.specs.Statement.{Written, Pair, isIndex, inRange, tooManyTerms}
-use Rattle.paper.specs.Rules.{first}
+use Rattle.paper.specs.Rules.{Store}
 use Rattle.written.specs.Worded.{Holds}
 use Rattle.reader.specs.Places.{Got, Fails}
 use Rattle.reader.specs.declared.field.FieldRead.{FieldRead}
-use Rattle.scratch.specs.Scratch.{factorAt, goalAt}
+use Rattle.scratch.specs.Scratch.{factorAt, goalAt, Kept}
+use Rattle.sums.specs.Sums.{Summed}
+use Rattle.steps.specs.Items.{verdictOf}
 use Rattle.lines.specs.declared.part.NumberRead.{NumberRead}
 use Rattle.lines.specs.declared.part.PairRead.{PairRead}
-use Rattle.lines.specs.declared.part.PairsRead.{PairsRead}
-
--- ---- verdicts on what is written: NUMBER where a number is out of its range, else TERMS where a field has too many terms
-abbrev pub verdictOf : Bool → Bool → ℕ
-verdictOf ranged few = first ((NUMBER, not ranged) ∷ (TERMS, not few) ∷ [])
+use Rattle.lines.specs.declared.pairs.PairsRead.{PairsRead}
 
 -- the verdict on two parts by the verdicts on each
 unfoldable pub lesserOf : ℕ → ℕ → ℕ
@@ -65,16 +62,11 @@ pub record PairPart (s : Bytes) (at : ℕ) (words words′ : List ℕ) (r : Pair
   pub part : Piece pair pairRanged pairFew (λ q. (r .index ≡ q .index) × Holds (q .factor) (r .terms) factorAt words′) s at (r .end) (r .why)
   pub kept : Within factorAt goalAt words words′
 
-pub record PairsPart (s : Bytes) (at : ℕ) (words words′ : List ℕ) (r : PairsRead) : Type 0 where
-  pub part : Piece pairs (every pairRanged) (every pairFew) (λ qs. Unit {0}) s at (r .end) (r .why)
-  pub kept : Within factorAt goalAt words words′
+-- the pairs with their sum over a store at k
+pub record PairsPart (k : ℕ) (store : Store) (s : Bytes) (at : ℕ) (words words′ : List ℕ) (r : PairsRead) : Type 0 where
+  pub part : Piece pairs (every pairRanged) (every pairFew) (λ qs. Summed k store qs words′ (r .sum)) s at (r .end) (r .why)
+  pub kept : Kept words words′
 
 -- ---- a keyword before a part
 abbrev pub keyed : {A : Type 0} → Bytes → Reader A → Reader A
 keyed w read = λ s. next (literal w s) (λ _. read)
-
--- ---- the pairs qs stand from the tab at `at` to the end of the line, in range and short
-pub record PairsAt (s : Bytes) (at : ℕ) (qs : List Pair) : Type 0 where
-  pub taken : Got pairs s at qs (length s)
-  pub ranged : every pairRanged qs ≡ true
-  pub few : every pairFew qs ≡ true

@@ -1,5 +1,5 @@
-// Lines of a text: a line is read, its fields go into the scratch as they were written, and its step judges it.
-pub mod judge;
+// Lines of a text: a line is read once, its fields go into the scratch as they were written, and the pairs of a lin line into their sum.
+pub mod index;
 mod pairs;
 mod part;
-mod read;
+pub mod read;

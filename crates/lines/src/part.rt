@@ -8,7 +8,7 @@ ghost use lib.ListN.{length, getD};
 ghost use Rattle.limits.specs.Limits.{greatestIndex, fieldTerms, termWords, leastScratch};
 ghost use Rattle.paper.specs.Grammar.{decimal, number};
 ghost use Rattle.paper.specs.Statement.{within};
-ghost use Rattle.lines.specs.Parts.{lesserOf, NumberPart, FieldPart, PairPart, PairsPart};
+ghost use Rattle.lines.specs.Parts.{lesserOf, NumberPart, FieldPart, PairPart};
 use reader::field::FieldRead;
 use reader::field::read_field;
 use reader::number::Number;
@@ -30,12 +30,6 @@ pub(crate) struct PairRead {
     pub why: u64,
 }
 
-// Pairs that were looked over.
-pub(crate) struct PairsRead {
-    pub end: usize,
-    pub why: u64,
-}
-
 // The verdict on two parts: NUMBER of either before TERMS of either.
 pub(crate) fn lesser(a: u64, b: u64) -> u64
     ensures { λ r. ⌜ r ≡ lesserOf a b ⌝ }
@@ -50,7 +44,7 @@ pub(crate) fn lesser(a: u64, b: u64) -> u64
 }
 
 // Whether a tab stands at at.
-fn tab_at(s: &[u8], at: usize) -> bool
+pub(crate) fn tab_at(s: &[u8], at: usize) -> bool
     requires { ⌜ at ≤ length (now s) ⌝ }
     ensures { λ r. ⌜ r ≡ (ltb at (length (now (s .entry))) && eqb (getD (now (s .entry)) at 0) 9) ⌝ }
 {
@@ -150,31 +144,4 @@ fn no_pair(end: usize, why: u64) -> PairRead
         end,
         why,
     }
-}
-
-// One pair or more from at on, each behind a tab.
-pub(crate) fn read_pairs(s: &[u8], at: usize, scratch: &mut [u64]) -> PairsRead
-    requires { ⌜ (at ≤ length (now s)) × (leastScratch ≤ length (now scratch)) ⌝ }
-    ensures { λ r. ⌜ PairsPart (now (s .entry)) at (now (scratch .entry)) (now (scratch .exit)) r ⌝ }
-{
-    if !tab_at(s, at) {
-        return PairsRead {
-            end: at,
-            why: limits::FORM,
-        };
-    }
-    let mut why = limits::ACCEPTED;
-    let mut i = at;
-    while tab_at(s, i) {
-        let q = read_pair(s, i + 1, scratch);
-        if q.why == limits::FORM {
-            return PairsRead {
-                end: q.end,
-                why: q.why,
-            };
-        }
-        why = lesser(why, q.why);
-        i = q.end;
-    }
-    PairsRead { end: i, why }
 }

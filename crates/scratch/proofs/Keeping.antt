@@ -13,7 +13,7 @@ use Rattle.terms.proofs.Decode.{decode-same}
 use Rattle.paper.specs.Statement.{Written}
 use Rattle.written.specs.Worded.{Holds}
 use Rattle.scratch.specs.Scratch.{statedAt, factorAt, goalAt, Kept}
-use Rattle.scratch.proofs.Reducing.{holds-few}
+use Rattle.written.proofs.Meaning.{holds-few}
 
 pub kept-refl : {s : List ℕ} → Kept s s
 kept-refl = record { stated = refl; goal = refl; same = refl }

@@ -8,7 +8,6 @@ use native.Mathlib.Omega.{arith}
 use lib.Bits.{bitOr, or-zero-r}
 use lib.ListN.{length, drop, replicate}
 use lib.Seq.{paste}
-use borrow.Author.Tests.{ltb-false}
 use borrow.Rule.Slice.PartMut.{putMid}
 use Rattle.ground.proofs.Congruence.{Same, same-refl, same-eq, same-add, _⊳_}
 use Rattle.words.specs.Parts.{part, Within}
@@ -21,10 +20,10 @@ use Rattle.words.specs.Words.{numberOf}
 use Rattle.words.proofs.Wrap.{same-negative}
 use Rattle.terms.specs.Terms.{termOf, decode, Leaves}
 use Rattle.terms.proofs.Decode.{decode-part, behind-within, decode-behind}
-use Rattle.paper.specs.Statement.{Written, tooManyTerms, reduced}
+use Rattle.paper.specs.Statement.{Written, reduced}
 use Rattle.paper.specs.Rules.{shows}
 use Rattle.written.specs.Worded.{Holds}
-use Rattle.written.proofs.Meaning.{worded-reduced}
+use Rattle.written.proofs.Meaning.{worded-reduced, holds-few}
 use Rattle.scratch.specs.Scratch.{statedAt, factorAt, RunAt, ReducedAt}
 
 -- the region of s from a up to e was lent, and y came back with the terms q at its front
@@ -36,10 +35,6 @@ module _ (a e n m : ℕ) (q : Poly) (s y : List ℕ) (h : a ≤ e) (l : e ≤ le
   lent-within = put-within s y a e h l (c .within .same)
 
 -- ---- a field as written
-pub holds-few : {w : Written} {n base : ℕ} {s : List ℕ} → Holds w n base s → n ≤ fieldTerms
-unfolding tooManyTerms
-holds-few {w} h = omega (arith, h .terms, ltb-false fieldTerms (length w) (h .short))
-
 pub region-room : (base n : ℕ) (s : List ℕ) → base + fieldTerms * termWords ≤ length s → {w : Written} → Holds w n base s
     → n * termWords ≤ length (part base (base + fieldTerms * termWords - base) s)
 region-room base n s l h = omega (arith, holds-few h, length-part base (base + fieldTerms * termWords - base) s (omega arith))

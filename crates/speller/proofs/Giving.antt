@@ -7,16 +7,15 @@ use native.Mathlib.Nat.{zero-add}
 use native.Mathlib.Omega.{arith}
 use lib.Dec.{eqb, leb, ltb}
 use lib.ListN.{length, drop, getD, replicate}
-use borrow.Author.Tests.{leb-true, leb-false, lt-ltb, le-ltb, ltb-false}
+use borrow.Author.Tests.{leb-true, leb-false, lt-ltb, le-ltb}
 use Rattle.ground.proofs.Tests.{cond-yes, cond-no}
-use Rattle.limits.specs.Limits.{fieldTerms, lineBytes, leastSpellingScratch}
+use Rattle.limits.specs.Limits.{lineBytes, leastSpellingScratch}
 use Rattle.limits.specs.Verdicts.{ACCEPTED, SHORT, LONGLINE, FULL}
 use Rattle.algebra.specs.Polynomial.{Poly, reduce, Reduced}
 use Rattle.algebra.proofs.Reduced.{reduced-reduce}
 use Rattle.algebra.proofs.Sums.{bound, below-bound}
 use Rattle.terms.specs.Terms.{none, decode, Leaves}
 use Rattle.paper.specs.Grammar.{Bytes}
-use Rattle.paper.specs.Statement.{Written, tooManyTerms}
 use Rattle.paper.specs.Spelling.{Spelled, refuse, spell, spellRead, wholeField, spellField, outputAfter, scratchAfter}
 use Rattle.paper.proofs.Ranges.{ring-most}
 use Rattle.written.specs.Worded.{Holds}
@@ -57,10 +56,6 @@ cut-reduced k b (t ∷ p) r (suc i) h = cut-reduced k (t .set) p (r .3) i (omega
 pub leaves-cut : (k : ℕ) (p : Poly) {n m : ℕ} {s words : List ℕ} → Leaves n (reduce k p) s words m → Cut k (decode m words)
 leaves-cut k p l =
     subst (Cut k) (sym (l .terms)) (record { at = cut-reduced k (bound p) (reduce k p) (reduced-reduce k (bound p) p (below-bound (bound p) p (omega arith))) })
-
-pub holds-few : {p : Written} {n at : ℕ} {words : List ℕ} → Holds p n at words → n ≤ fieldTerms
-unfolding tooManyTerms
-holds-few {p = p} h = omega (arith, h .terms, ltb-false fieldTerms (length p) (h .short))
 
 pub gives-same : (k : ℕ) {p q : Poly} {out out′ : Bytes} {r : Answer} → p ≡ q → Gives (fitted (spell k p) (length out)) out out′ r → Gives (fitted (spell k q) (length out)) out out′ r
 gives-same k {out = out} e g = gives-as (ap (λ (p : Poly). fitted (spell k p) (length out)) e) g

@@ -2,16 +2,19 @@
 use mathlib.Core.Path.{_≡_, sym, ap, _∙_}
 use mathlib.Core.Bool.{Bool, true, false, not}
 use mathlib.Core.List.{List, [], _∷_}
-use Prim.Native.Nat.{ℕ}
+use Prim.Native.Nat.{ℕ, _≤_, _<_}
 use native.Mathlib.Omega.{arith}
 use lib.Dec.{eqb}
 use borrow.Author.Tests.{eqb-true, not-false}
+use Rattle.limits.specs.Limits.{greatestRing}
 use Rattle.limits.specs.Verdicts.{ORDER, TAKEN}
 use Rattle.paper.specs.Rules.{first, stored}
-use Rattle.table.specs.Table.{storeOfColumns}
+use Rattle.table.specs.Table.{storeOfColumns, storeOf}
 use Rattle.table.specs.Columns.{Absent, FirstAt}
 use Rattle.table.proofs.Laws.{absent-stored, found-stored}
 use Rattle.sums.proofs.Rows.{first-open}
+use Rattle.steps.specs.declared.state.State.{State}
+use Rattle.steps.specs.Stepped.{Room}
 use Rattle.steps.specs.Parts.{admitRows}
 use Rattle.steps.proofs.Stepping.{order-refuses, order-passes}
 
@@ -31,13 +34,22 @@ module _ (indices starts counts pool : List ℕ) (n x place phase : ℕ) (z : ph
   unfolding first
   admit-free f = admit-by false (absent-stored indices starts counts pool n x f)
 
--- ---- what an accepted line is
-module _ (place phase : ℕ) (taken : Bool) {v : ℕ} (q : v ≡ first (admitRows place phase taken)) (z : v ≡ 0) where
-  passed : (not (eqb place phase) ≡ false) × (first ((TAKEN, taken) ∷ []) ≡ 0)
-  passed = first-open ORDER (not (eqb place phase)) ((TAKEN, taken) ∷ []) (omega arith) (sym q ∙ z)
+-- ---- what `admit` says of the index x, whatever the pool holds
+abbrev pub AdmitIs : ℕ → State → ℕ → ℕ → Type 0
+AdmitIs place s x v = (starts counts pool : List ℕ) → v ≡ first (admitRows place (s .phase) (stored (storeOfColumns (s .table .indices) starts counts pool (s .table .stored)) x))
 
-  pub admitted-phase : phase ≡ place
-  admitted-phase = sym (eqb-true place phase (not-false (eqb place phase) (passed .0)))
+-- where it accepts
+module _ (place : ℕ) (s : State) (x : ℕ) {v : ℕ} (a : AdmitIs place s x v) (z : v ≡ 0) where
+  passed : (pool : List ℕ) → (not (eqb place (s .phase)) ≡ false) × (first ((TAKEN, stored (storeOf (s .table) pool) x) ∷ []) ≡ 0)
+  passed pool =
+      first-open ORDER (not (eqb place (s .phase))) ((TAKEN, stored (storeOf (s .table) pool) x) ∷ []) (omega arith) (sym (a (s .table .starts) (s .table .counts) pool) ∙ z)
 
-  pub admitted-free : taken ≡ false
-  admitted-free = first-open TAKEN taken [] (omega arith) (passed .1) .0
+  pub admitted-phase : s .phase ≡ place
+  admitted-phase = sym (eqb-true place (s .phase) (not-false (eqb place (s .phase)) (passed [] .0)))
+
+  pub admitted-free : (pool : List ℕ) → stored (storeOf (s .table) pool) x ≡ false
+  admitted-free pool = first-open TAKEN (stored (storeOf (s .table) pool) x) [] (omega arith) (passed pool .1) .0
+
+  -- behind the first phase, where the ring is known
+  pub admitted-ring : {capacity : ℕ} {pool scratch : List ℕ} → Room capacity s pool scratch → 0 < place → (1 ≤ s .ring) × (s .ring ≤ greatestRing)
+  admitted-ring room l = room .ready .ringed (omega (arith, admitted-phase))

@@ -2,7 +2,7 @@
 use mathlib.Core.Path.{_≡_, refl, sym, ap, _∙_}
 use mathlib.Core.Bool.{Bool}
 use mathlib.Core.List.{List, []}
-use Prim.Native.Nat.{ℕ, _-_}
+use Prim.Native.Nat.{ℕ, _+_, _-_}
 use native.Mathlib.Omega.{arith}
 use lib.Bits.{bitOr}
 use lib.ListN.{length, drop}
@@ -44,7 +44,7 @@ module _ {capacity : ℕ} {s : State} {pool scratch : List ℕ} {n : ℕ} {p : W
         «goal_terms» = f .terms;
         reached = reached;
         products = s .products;
-        lines = s .lines;
+        lines = s .lines + 1;
       })
       → Stepped capacity (goal p) s pool scratch r pool scratch′
   unfolding first
@@ -75,7 +75,7 @@ module _ {capacity : ℕ} {s : State} {pool scratch : List ℕ} {n : ℕ} {p : W
           distinct = o .distinct;
           few = omega (arith, o .few);
         };
-        lines = refl;
+        lines = λ _. refl;
         back = λ n. absurd (n refl);
         untouched = λ n. refl;
         pool-length = refl;

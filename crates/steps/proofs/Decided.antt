@@ -70,7 +70,7 @@ steps-alike capacity st s pool scratch r q pool′ pool″ scratch′ scratch″
     record {
       verdict = v;
       refused = λ n. ((λ i. record { verdict = v i; state = (x .back n ∙ sym (y .back (λ e. n (v ∙ e)))) i }), x .untouched n ∙ sym (y .untouched (λ e. n (v ∙ e))));
-      numbers = λ e. same-numbers (r .state) (q .state) pool′ pool″ scratch′ scratch″ u w (x .ready e .fitting .packed) (y .ready (sym v ∙ e) .fitting .packed) (x .lines ∙ sym (y .lines)) (meaning e);
+      numbers = λ e. same-numbers (r .state) (q .state) pool′ pool″ scratch′ scratch″ u w (x .ready e .fitting .packed) (y .ready (sym v ∙ e) .fitting .packed) (x .lines e ∙ sym (y .lines (sym v ∙ e))) (meaning e);
       meaning = meaning;
       pool-length = x .pool-length ∙ sym (y .pool-length);
       scratch-length = x .scratch-length ∙ sym (y .scratch-length);

@@ -8,3 +8,6 @@ pub mod Checking
 pub mod Storing
 pub mod Decided
 pub mod Calling
+pub mod Asking
+pub mod Judging
+pub mod ItemsDecided

@@ -7,8 +7,9 @@ use native.Mathlib.Omega.{arith}
 use lib.Bits.{bitOr}
 use lib.ListN.{length}
 use Rattle.algebra.specs.Polynomial.{Poly, equal, extension}
-use Rattle.paper.specs.Statement.{Written, Pair, bits, Statement, input, lin, ext, isIndex, isVariable, inRange, tooManyTerms, reduced}
+use Rattle.paper.specs.Statement.{Written, Pair, bits, Statement, input, lin, ext, isIndex, isVariable, reduced}
 use Rattle.paper.specs.Rules.{entry, first, inputs, steps, State, stored, find, rules, after, shows, showsAll, overfull}
+use Rattle.written.specs.Worded.{Holds}
 use Rattle.sums.specs.Rows.{Rows}
 use Rattle.sums.specs.Sums.{factorsOf, PairsFit, productsOf}
 use Rattle.sums.proofs.Rows.{Refusing}
@@ -23,22 +24,29 @@ pub record Stores (capacity : ℕ) (s : State) (st : Statement) (place x : ℕ) 
   pub verdict : first (rules capacity s st) ≡ first (admitRows place (s .phase) (stored (s .store) x) ++ (rows ++ fullRows (overfull capacity (s .store) (entry x q))))
   pub next : after s st ≡ storing s x q made shown reached
 
-module _ (capacity : ℕ) (s : State) where
-  abbrev k : ℕ
-  k = bits (s .ring)
+abbrev k : State → ℕ
+k s = bits (s .ring)
 
-  module _ (x : ℕ) (p : Written) (i : isIndex x ≡ true) (r : inRange p ≡ true) (t : tooManyTerms p ≡ false) where
-    pub input-stores : Stores capacity s (input x p) inputs x [] (reduced k p) 0 (bitOr (shows k p) (s .seen)) false
-    input-stores = record { later = omega arith; refusing = tt; verdict = first-input capacity s x p i r t; next = after-input s x p }
+module _ {capacity : ℕ} {s : State} {x n at : ℕ} {words : List ℕ} {p : Written} (i : isIndex x ≡ true) (h : Holds p n at words) where
+  pub input-stores : Stores capacity s (input x p) inputs x [] (reduced (k s) p) 0 (bitOr (shows (k s) p) (s .seen)) false
+  input-stores = record { later = omega arith; refusing = tt; verdict = first-input capacity s x p i (h .ranged) (h .short); next = after-input s x p }
 
-    pub ext-stores : (v : ℕ) → isVariable v ≡ true
-        → Stores capacity s (ext x v p) steps x (extRows k (s .seen) v p) (extension k v (reduced k p)) (length (reduced k p) * length (reduced k p))
-        (bitOr (bitOr (2 ^ v) (shows k p)) (s .seen)) (s .reached || equal (extension k v (reduced k p)) (s .goal))
-    ext-stores v u =
-        record { later = omega arith; refusing = (omega arith, (omega arith, (omega arith, tt))); verdict = first-ext capacity s x v p i u r t; next = after-ext s x v p }
+  pub ext-stores : {v : ℕ} → isVariable v ≡ true
+      → Stores capacity s (ext x v p) steps x (extRows (k s) (s .seen) v p) (extension (k s) v (reduced (k s) p)) (length (reduced (k s) p) * length (reduced (k s) p))
+      (bitOr (bitOr (2 ^ v) (shows (k s) p)) (s .seen)) (s .reached || equal (extension (k s) v (reduced (k s) p)) (s .goal))
+  ext-stores {v} u = record {
+    later = omega arith;
+    refusing = (omega arith, (omega arith, (omega arith, tt)));
+    verdict = first-ext capacity s x v p i u (h .ranged) (h .short);
+    next = after-ext s x v p;
+  }
 
-    pub lin-stores : (qs : List Pair) → PairsFit qs
-        → Stores capacity s (lin x p qs) steps x (linRows k (s .store) p qs) (reduced k p) (productsOf k (find (s .store)) qs)
-        (bitOr (bitOr (shows k p) (showsAll k (factorsOf qs))) (s .seen)) (s .reached || equal (reduced k p) (s .goal))
-    lin-stores qs q =
-        record { later = omega arith; refusing = (omega arith, (omega arith, (omega arith, tt))); verdict = first-lin capacity s x p qs i r t q; next = after-lin s x p qs }
+  pub lin-stores : {qs : List Pair} → PairsFit qs
+      → Stores capacity s (lin x p qs) steps x (linRows (k s) (s .store) p qs) (reduced (k s) p) (productsOf (k s) (find (s .store)) qs)
+      (bitOr (bitOr (shows (k s) p) (showsAll (k s) (factorsOf qs))) (s .seen)) (s .reached || equal (reduced (k s) p) (s .goal))
+  lin-stores {qs} q = record {
+    later = omega arith;
+    refusing = (omega arith, (omega arith, (omega arith, tt)));
+    verdict = first-lin capacity s x p qs i (h .ranged) (h .short) q;
+    next = after-lin s x p qs;
+  }

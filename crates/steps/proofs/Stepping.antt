@@ -2,12 +2,12 @@
 use mathlib.Core.Path.{_≡_, refl, sym, ap, subst, _∙_}
 use mathlib.Core.Bool.{Bool, true, false, not}
 use mathlib.Core.List.{List, [], _∷_}
-use Prim.Native.Nat.{ℕ}
+use Prim.Native.Nat.{ℕ, _+_}
 use native.Mathlib.Omega.{arith}
 use lib.Dec.{eqb}
 use lib.ListN.{length, replicate}
 use borrow.Author.Tests.{eq-eqb, ne-eqb}
-use Rattle.limits.specs.Limits.{setWords}
+use Rattle.limits.specs.Limits.{storedPolynomials, setWords}
 use Rattle.limits.specs.Verdicts.{ORDER, MISSING}
 use Rattle.words.specs.Words.{numberOf}
 use Rattle.terms.specs.Terms.{decode}
@@ -56,6 +56,10 @@ at-start t f = record {
 }
 
 -- ---- a step
+-- how long the columns are
+abbrev pub Long : Table → Type 0
+Long t = (length (t .indices) ≡ storedPolynomials) × (length (t .starts) ≡ storedPolynomials) × (length (t .counts) ≡ storedPolynomials)
+
 pub stepped-refused : {capacity : ℕ} {st : Statement} {s : State} {pool scratch : List ℕ} {r : Step} {scratch′ : List ℕ} (v : ℕ) → (v ≡ 0 → ⊥)
     → first (rules capacity (stateOf s pool scratch) st) ≡ v → (r .verdict ≡ v) × (r .state ≡ s) → length scratch′ ≡ length scratch
     → Stepped capacity st s pool scratch r pool scratch′
@@ -63,7 +67,7 @@ stepped-refused {r = r} v l e h n = record {
   verdict = e ∙ sym (h .0);
   next = λ z. absurd (l (sym (h .0) ∙ z));
   ready = λ z. absurd (l (sym (h .0) ∙ z));
-  lines = ap (λ (x : State). x .lines) (h .1);
+  lines = λ z. absurd (l (sym (h .0) ∙ z));
   back = λ z. h .1;
   untouched = λ z. refl;
   pool-length = refl;
@@ -96,7 +100,7 @@ ringed s k = record {
   «goal_terms» = s .«goal_terms»;
   reached = s .reached;
   products = s .products;
-  lines = s .lines;
+  lines = s .lines + 1;
 }
 
 module _ {capacity : ℕ} {s : State} {pool scratch : List ℕ} {k : ℕ} (h : isRing (modulo k) ≡ true) where
@@ -119,7 +123,7 @@ module _ {capacity : ℕ} {s : State} {pool scratch : List ℕ} {k : ℕ} (h : i
           distinct = o .distinct;
           few = omega (arith, o .few);
         };
-        lines = refl;
+        lines = λ _. refl;
         back = λ n. absurd (n refl);
         untouched = λ _. refl;
         pool-length = refl;
@@ -136,7 +140,7 @@ shrunk s t = record {
   «goal_terms» = s .«goal_terms»;
   reached = s .reached;
   products = s .products;
-  lines = s .lines;
+  lines = s .lines + 1;
 }
 
 -- in its phase, by whether the index is stored
@@ -185,7 +189,7 @@ module _ {capacity : ℕ} {s : State} {pool scratch : List ℕ} {x : ℕ} (h : i
           distinct = subst Distinct (sym q) (distinct-remove (storeOf (s .table) pool) x (o .distinct));
           few = omega (arith, o .few);
         };
-        lines = refl;
+        lines = λ _. refl;
         back = λ n. absurd (n refl);
         untouched = λ n. absurd (n refl);
         pool-length = l;

@@ -2,16 +2,16 @@
 use mathlib.Core.Path.{_≡_, refl, sym, ap, ap₂, subst, _∙_}
 use mathlib.Core.Bool.{Bool, true, false, _||_}
 use mathlib.Core.List.{List, [], _++_}
-use Prim.Native.Nat.{ℕ, _+_, _*_, _≤_, _<_}
+use Prim.Native.Nat.{ℕ, _+_, _*_, _^_, _≤_, _<_}
 use native.Mathlib.Omega.{arith}
 use lib.Dec.{leb, ltb}
-use lib.ListN.{length, drop, length-drop}
+use lib.ListN.{length, drop, set, length-drop}
 use lib.Seq.{paste}
 use borrow.Author.Tests.{le-leb, lt-leb, leb-false, lt-ltb, le-ltb, ltb-false}
 use Rattle.ground.proofs.Tests.{or-none-left, or-none-right}
 use Rattle.words.specs.Parts.{Within}
 use Rattle.words.proofs.Parts.{paste-within}
-use Rattle.limits.specs.Limits.{storedPolynomials, termWords}
+use Rattle.limits.specs.Limits.{textBytes, storedPolynomials, fieldTerms, lineProducts, mostPoolTerms, termWords, leastScratch}
 use Rattle.limits.specs.Verdicts.{FULL}
 use Rattle.algebra.specs.Polynomial.{Poly, equal}
 use Rattle.terms.specs.Terms.{decode}
@@ -22,7 +22,8 @@ use Rattle.paper.proofs.Store.{distinct-append}
 use Rattle.table.specs.declared.Table.{Table}
 use Rattle.table.specs.Table.{storeOf, Fitting}
 use Rattle.table.proofs.Laws.{store-length, store-terms, store-kept}
-use Rattle.table.proofs.Pushing.{Pushed}
+use Rattle.table.proofs.Packing.{used-short}
+use Rattle.table.proofs.Pushing.{Pushed, pushed}
 use Rattle.scratch.specs.Scratch.{statedAt, goalAt}
 use Rattle.sums.specs.Rows.{Rows, orElse}
 use Rattle.sums.proofs.Rows.{else-stop, else-same, else-open, first-append, first-open}
@@ -32,8 +33,8 @@ use Rattle.steps.specs.declared.check.Candidate.{Candidate}
 use Rattle.steps.specs.State.{stateOf, Ready}
 use Rattle.steps.specs.Stepped.{Room, Stepped}
 use Rattle.steps.specs.Parts.{admitRows, fullRows, CandidateIs, PoolTakes}
-use Rattle.steps.proofs.Stepping.{stepped-refused, told}
-use Rattle.steps.proofs.Admitting.{admitted-phase, admitted-free}
+use Rattle.steps.proofs.Stepping.{Long, stepped-refused, told}
+use Rattle.steps.proofs.Admitting.{AdmitIs, admitted-phase, admitted-free}
 use Rattle.steps.proofs.After.{storing}
 use Rattle.steps.proofs.Stating.{Stores}
 
@@ -71,7 +72,7 @@ module _ {v stored used n capacity : ℕ} {pool scratch : List ℕ} where
         same = ap length e ∙ paste-within pool (used * termWords) (drop statedAt scratch) (n * termWords) long enough .same;
       }
 
-pub pool-stands : {v n stored used capacity w : ℕ} {pool scratch pool′ : List ℕ} → PoolTakes v stored used n capacity pool scratch w pool′ → w ≡ 0
+pool-stands : {v n stored used capacity w : ℕ} {pool scratch pool′ : List ℕ} → PoolTakes v stored used n capacity pool scratch w pool′ → w ≡ 0
     → (v ≡ 0) × (stored < storedPolynomials) × (used + n ≤ capacity)
 pool-stands {v} {n} {stored} {used} {capacity} k z =
     let few : Bool = leb storedPolynomials stored in
@@ -86,6 +87,45 @@ full-by-table : (s : Table) (pool : List ℕ) (capacity i n : ℕ) (l : List ℕ
 unfolding overfull
 full-by-table s pool capacity i n l f = rw (store-length s pool, store-terms s pool (f .packed), decode-length n l)
 
+-- ---- how much there is of what is to be stored
+pub record Sized (s r : List ℕ) (c : Candidate) : Type 0 where
+  pub few : c .verdict ≡ 0 → c .terms ≤ fieldTerms
+  pub most : c .verdict ≡ 0 → c .products ≤ lineProducts
+  pub same : length r ≡ length s
+
+pub sized : {rows : Rows} {q : Poly} {made shown : ℕ} {s r : List ℕ} {c : Candidate} → CandidateIs rows q made shown s r c → Sized s r c
+sized m = record { few = m .few; most = m .most; same = m .same }
+
+-- what an entry of it asks for
+pub record Entering (s : State) (scratch : List ℕ) (c : Candidate) : Type 0 where
+  pub accepted : c .verdict ≡ 0
+  pub stored : s .table .stored < storedPolynomials
+  pub start : s .table .used < 2 ^ 16
+  pub used : s .table .used + c .terms ≤ mostPoolTerms
+  pub products : s .products + c .products < 2 ^ 64
+  pub lines : s .lines ≤ textBytes
+  pub reaches : (c .terms ≤ fieldTerms) × (s .«goal_terms» ≤ fieldTerms) × (leastScratch ≤ length scratch)
+
+module _ {capacity : ℕ} {s : State} {pool scratch scratch′ : List ℕ} {c : Candidate} (room : Room capacity s pool scratch) (z : Sized scratch scratch′ c) where
+  pub ask-append : (c .verdict ≡ 0 → c .terms ≤ fieldTerms) × (s .table .used ≤ capacity) × (capacity * termWords ≤ length pool) × (capacity ≤ mostPoolTerms) × (leastScratch ≤ length scratch′)
+  ask-append = let f = room .ready .fitting in (z .few, f .room, f .words, f .most, omega (arith, z .same, room .ready .room))
+
+  pub entering : {w : ℕ} {pool′ : List ℕ} → PoolTakes (c .verdict) (s .table .stored) (s .table .used) (c .terms) capacity pool scratch′ w pool′ → w ≡ 0 → Entering s scratch′ c
+  entering k y =
+      let r = room .ready in
+      let t = s .table in
+      let p = pool-stands k y in
+      let few = z .few (p .0) in
+      record {
+        accepted = p .0;
+        stored = p .1;
+        start = omega (arith, used-short (t .starts) (t .counts) (t .stored) (t .used) (r .fitting .packed), r .fitting .packed .few);
+        used = omega (arith, p .2, r .fitting .most);
+        products = omega (arith, z .most (p .0), r .few, room .early);
+        lines = room .early;
+        reaches = (few, r .aim, omega (arith, z .same, r .room));
+      }
+
 -- ---- the step
 abbrev grown : State → Table → List ℕ → Bool → ℕ → State
 grown s t seen reached products = record {
@@ -96,63 +136,78 @@ grown s t seen reached products = record {
   «goal_terms» = s .«goal_terms»;
   reached = reached;
   products = products;
-  lines = s .lines;
+  lines = s .lines + 1;
 }
 
+-- the verdict: of `admit`, then of the rows between, then of the pool
 module _ (capacity : ℕ) (s : State) (pool scratch : List ℕ) {st : Statement} {place x : ℕ} {rows : Rows} {q : Poly} {made shown : ℕ} {aim : Bool} {v : ℕ}
-    (t : Stores capacity (stateOf s pool scratch) st place x rows q made shown aim) (a : v ≡ first (admitRows place (s .phase) (stored (storeOf (s .table) pool) x))) where
+    (t : Stores capacity (stateOf s pool scratch) st place x rows q made shown aim) (a : AdmitIs place s x v) where
   abbrev later : Rows
   later = rows ++ fullRows (overfull capacity (storeOf (s .table) pool) (entry x q))
 
   admitted : first (rules capacity (stateOf s pool scratch) st) ≡ orElse v (first later)
   admitted = t .verdict ∙ first-append (admitRows place (s .phase) (stored (storeOf (s .table) pool) x)) later (omega arith, (omega arith, tt))
-      ∙ ap (λ (u : ℕ). orElse u (first later)) (sym a)
+      ∙ ap (λ (u : ℕ). orElse u (first later)) (sym (a (s .table .starts) (s .table .counts) pool))
 
+  unadmitted-verdict : (v ≡ 0 → ⊥) → first (rules capacity (stateOf s pool scratch) st) ≡ v
+  unadmitted-verdict n = admitted ∙ else-stop v (first later) n
+
+  last-verdict : {scratch′ pool′ : List ℕ} {c : Candidate} {w : ℕ} → v ≡ 0 → Room capacity s pool scratch → CandidateIs rows q made shown scratch scratch′ c
+      → PoolTakes (c .verdict) (s .table .stored) (s .table .used) (c .terms) capacity pool scratch′ w pool′ → first (rules capacity (stateOf s pool scratch) st) ≡ w
+  last-verdict {scratch′} {c = c} z room m k =
+      admitted ∙ ap (λ (u : ℕ). orElse u (first later)) z ∙ first-append rows (fullRows _) (t .refusing)
+      ∙ ap (λ (u : ℕ). orElse u (first (fullRows (overfull capacity (storeOf (s .table) pool) (entry x q))))) (sym (m .verdict))
+      ∙ else-same (c .verdict) _ _ (λ b. ap (λ (f : Bool). first (fullRows f))
+      (ap (λ (p : Poly). overfull capacity (storeOf (s .table) pool) (entry x p)) (sym (m .run b)) ∙ full-by-table (s .table) pool capacity x (c .terms) (drop statedAt scratch′) (room .ready .fitting)))
+      ∙ sym (k .verdict)
+
+module _ {capacity : ℕ} {s : State} {pool scratch : List ℕ} {st : Statement} {place x : ℕ} {rows : Rows} {q : Poly} {made shown : ℕ} {aim : Bool} {v : ℕ}
+    (t : Stores capacity (stateOf s pool scratch) st place x rows q made shown aim) (a : AdmitIs place s x v) where
   pub unadmitted : {r : Step} → (v ≡ 0 → ⊥) → (r .verdict ≡ v) × (r .state ≡ s) → Stepped capacity st s pool scratch r pool scratch
-  unadmitted n w = stepped-refused v n (admitted ∙ else-stop v (first later) n) w refl
+  unadmitted n w = stepped-refused v n (unadmitted-verdict capacity s pool scratch t a n) w refl
 
   module _ (z : v ≡ 0) (room : Room capacity s pool scratch) {scratch′ pool′ : List ℕ} {c : Candidate} {w : ℕ} (m : CandidateIs rows q made shown scratch scratch′ c)
       (k : PoolTakes (c .verdict) (s .table .stored) (s .table .used) (c .terms) capacity pool scratch′ w pool′) where
-    verdict : first (rules capacity (stateOf s pool scratch) st) ≡ w
-    verdict = admitted ∙ ap (λ (u : ℕ). orElse u (first later)) z ∙ first-append rows (fullRows _) (t .refusing)
-        ∙ ap (λ (u : ℕ). orElse u (first (fullRows (overfull capacity (storeOf (s .table) pool) (entry x q))))) (sym (m .verdict))
-        ∙ else-same (c .verdict) _ _ (λ b. ap (λ (f : Bool). first (fullRows f))
-        (ap (λ (p : Poly). overfull capacity (storeOf (s .table) pool) (entry x p)) (sym (m .run b)) ∙ full-by-table (s .table) pool capacity x (c .terms) (drop statedAt scratch′) (room .ready .fitting)))
-        ∙ sym (k .verdict)
-
     pub halts : {r : Step} → (w ≡ 0 → ⊥) → (r .verdict ≡ w) × (r .state ≡ s) → Stepped capacity st s pool scratch r pool′ scratch′
     halts {r} h e =
-        subst (λ (x : List ℕ). Stepped capacity st s pool scratch r x scratch′) (sym (k .untouched h)) (stepped-refused w h verdict e (m .same))
+        subst (λ (x : List ℕ). Stepped capacity st s pool scratch r x scratch′) (sym (k .untouched h)) (stepped-refused w h (last-verdict capacity s pool scratch t a z room m k) e (m .same))
 
-    pub enters : {u : Table} {r : Step} {reached : Bool} {products : ℕ} → w ≡ 0 → Pushed (s .table) x (c .terms) u → reached ≡ aim → products ≡ s .products + c .products
-        → (r .verdict ≡ 0) × (r .state ≡ grown s u (c .seen) reached products) → Stepped capacity st s pool scratch r pool′ scratch′
-    enters {u} {reached = reached} {products} y p b d e = told e (record {
-      verdict = verdict ∙ y;
+    pub enters : {is ss cs : List ℕ} {r : Step} {reached : Bool} {products : ℕ} → w ≡ 0 → Long (s .table)
+        → is ≡ set (s .table .indices) (s .table .stored) x → ss ≡ set (s .table .starts) (s .table .stored) (s .table .used) → cs ≡ set (s .table .counts) (s .table .stored) (c .terms)
+        → reached ≡ aim → products ≡ s .products + c .products
+        → (r .verdict ≡ 0) × (r .state ≡ grown s (record { indices = is; starts = ss; counts = cs; stored = s .table .stored + 1; used = s .table .used + c .terms }) (c .seen) reached products)
+        → Stepped capacity st s pool scratch r pool′ scratch′
+    enters {is} {ss} {cs} {reached = reached} {products} y columns ei es ec b d e = told e (record {
+      verdict = last-verdict capacity s pool scratch t a z room m k ∙ y;
       next = λ _. follows ∙ sym (t .next);
       ready = λ _. record {
         fitting = record { packed = p .packed; room = omega (arith, p .used, stands .2); words = omega (arith, within .same, o .fitting .words); most = o .fitting .most };
         room = omega (arith, m .same, o .room);
         aim = o .aim;
         ringed = o .ringed;
-        opened = λ _. omega (arith, t .later, admitted-phase place (s .phase) taken a z);
-        distinct = subst Distinct (sym store) (distinct-append (storeOf (s .table) pool) (record { index = x; poly = q }) (o .distinct) (admitted-free place (s .phase) taken a z));
+        opened = λ _. omega (arith, t .later, admitted-phase place s x a z);
+        distinct = subst Distinct (sym store) (distinct-append (storeOf (s .table) pool) (record { index = x; poly = q }) (o .distinct) (admitted-free place s x a z pool));
         few = omega (arith, o .few, m .most (stands .0), d);
       };
-      lines = refl;
+      lines = λ _. refl;
       back = λ h. absurd (h refl);
       untouched = λ h. absurd (h refl);
       pool-length = within .same;
       scratch-length = m .same;
     })
       where
-        o : Ready capacity (s .lines) s pool scratch
+        o : Ready capacity s pool scratch
         o = room .ready
 
-        taken : Bool
-        taken = stored (storeOf (s .table) pool) x
+        u : Table
+        u = record { indices = is; starts = ss; counts = cs; stored = s .table .stored + 1; used = s .table .used + c .terms }
 
         stands : (c .verdict ≡ 0) × (s .table .stored < storedPolynomials) × (s .table .used + c .terms ≤ capacity)
         stands = pool-stands k y
+
+        p : Pushed (s .table) x (c .terms) u
+        p = pushed (s .table) x (c .terms) is ss cs (o .fitting .packed) (stands .1) (m .few (stands .0)) (omega (arith, columns .0, stands .1)) (omega (arith, columns .1, stands .1))
+            (omega (arith, columns .2, stands .1)) ei es ec
 
         e′ : pool′ ≡ paste pool (s .table .used * termWords) (drop statedAt scratch′) (c .terms * termWords)
         e′ = k .kept y

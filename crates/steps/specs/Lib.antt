@@ -1,3 +1,4 @@
 pub mod State
 pub mod Stepped
 pub mod Parts
+pub mod Items

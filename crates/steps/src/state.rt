@@ -1,6 +1,9 @@
 // The state between two lines.
 ghost use mathlib.Core.Path.{_≡_};
-ghost use Rattle.steps.specs.State.{AtStart};
+ghost use Prim.Native.Nat.{_≤_};
+ghost use Rattle.limits.specs.Limits.{textBytes};
+ghost use Rattle.limits.specs.Verdicts.{ACCEPTED};
+ghost use Rattle.steps.specs.State.{counted, AtStart};
 use table::Table;
 use words::Set;
 
@@ -20,7 +23,7 @@ pub struct State {
     pub seen: Set,
     pub goal_terms: usize,
     pub reached: bool,
-    // The products of all lines that stood, and how many lines those are.
+    // The products of all statements that stood, and how many statements those are.
     pub products: u64,
     pub lines: u64,
 }
@@ -55,5 +58,14 @@ impl State {
             verdict,
             state: self,
         }
+    }
+
+    // One more statement stands.
+    pub(crate) fn stands(mut self) -> Step
+        requires { ⌜ self .lines ≤ textBytes ⌝ }
+        ensures { λ r. ⌜ (r .verdict ≡ ACCEPTED) × (r .state ≡ counted self) ⌝ }
+    {
+        self.lines += 1;
+        self.with_verdict(limits::ACCEPTED)
     }
 }

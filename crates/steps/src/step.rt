@@ -2,7 +2,8 @@
 ghost use mathlib.Core.Path.{_≡_};
 ghost use mathlib.Core.Bool.{true};
 ghost use mathlib.Core.List.{List};
-ghost use Prim.Native.Nat.{ℕ};
+ghost use Prim.Native.Nat.{ℕ, _≤_};
+ghost use Rattle.limits.specs.Limits.{textBytes};
 ghost use Rattle.paper.specs.Statement.{Written, Pair, modulo, ring, input, goal, lin, del, ext, isRing, isIndex, isVariable};
 ghost use Rattle.written.specs.Worded.{Holds};
 ghost use Rattle.table.specs.Table.{storeOf};
@@ -33,7 +34,7 @@ use table::put_start;
 impl State {
     // ring k
     pub fn step_ring(mut self, k: u32) -> Step
-        requires { ⌜ isRing (modulo k) ≡ true ⌝ }
+        requires { ⌜ (isRing (modulo k) ≡ true) × (self .lines ≤ textBytes) ⌝ }
         ensures { λ r. ⌜ ((capacity : ℕ) (pool scratch : List ℕ) → Room capacity self pool scratch → Stepped capacity (ring (modulo k)) self pool scratch r pool scratch) ⌝ }
     {
         if self.phase != OPENING {
@@ -41,7 +42,7 @@ impl State {
         }
         self.ring = k;
         self.phase = INPUTS;
-        self.with_verdict(limits::ACCEPTED)
+        self.stands()
     }
 
     // del index
@@ -73,7 +74,7 @@ impl State {
         );
         self.table.stored = n - 1;
         self.table.used = used - len;
-        self.with_verdict(limits::ACCEPTED)
+        self.stands()
     }
 
     // in index polynomial: the n terms of the stated region
@@ -112,7 +113,7 @@ impl State {
         state.table.used = used + f.terms;
         state.seen = seen;
         state.reached = false;
-        state.with_verdict(limits::ACCEPTED)
+        state.stands()
     }
 
     // goal polynomial: the n terms of the stated region
@@ -145,7 +146,7 @@ impl State {
         self.seen = seen;
         self.goal_terms = m;
         self.phase = STEPS;
-        self.with_verdict(limits::ACCEPTED)
+        self.stands()
     }
 
     // lin index polynomial pairs: the n terms of the stated region, and the sum of the pairs
@@ -185,7 +186,7 @@ impl State {
         state.seen = seen;
         state.reached = reaches(state.reached, scratch, made.terms, state.goal_terms);
         state.products += made.products as u64;
-        state.with_verdict(limits::ACCEPTED)
+        state.stands()
     }
 
     // ext index variable polynomial: the n terms of the stated region
@@ -225,6 +226,6 @@ impl State {
         state.seen = seen;
         state.reached = reaches(state.reached, scratch, made.terms, state.goal_terms);
         state.products += made.products as u64;
-        state.with_verdict(limits::ACCEPTED)
+        state.stands()
     }
 }

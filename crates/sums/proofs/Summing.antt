@@ -10,7 +10,7 @@ use lib.Dec.{ltb}
 use lib.ListN.{length, drop, replicate}
 use borrow.Author.Tests.{ltb-true, lt-ltb, not-false}
 use Rattle.ground.specs.Lists.{every, any, total}
-use Rattle.ground.proofs.Lists.{every-append}
+use Rattle.ground.proofs.Lists.{every-more}
 use Rattle.ground.proofs.Tests.{and-both, or-none-left, or-none-right}
 use Rattle.limits.specs.Limits.{lineProducts, setWords}
 use Rattle.limits.specs.Verdicts.{MISSING, PRODUCTS}
@@ -64,10 +64,6 @@ any-more : {A : Type 0} (f : A → Bool) (xs : List A) (x : A) → any f xs ≡ 
 unfolding any
 any-more f [] x e h = rw h
 any-more f (y ∷ xs) x e h = rw (or-none-left (f y) (any f xs) e) (any-more f xs x (or-none-right (f y) (any f xs) e) h)
-
-pub every-more : {A : Type 0} (f : A → Bool) (xs : List A) (x : A) → every f (xs ++ (x ∷ [])) ≡ (every f xs && f x)
-unfolding every
-every-more f xs x = every-append f xs (x ∷ []) ∙ ap (λ (b : Bool). every f xs && b) (and-true (f x))
 
 shows-more : (k : ℕ) (ps : List Written) (p : Written) → showsAll k (ps ++ (p ∷ [])) ≡ bitOr (shows k p) (showsAll k ps)
 unfolding showsAll

@@ -6,7 +6,8 @@ use lib.ListN.{length}
 use borrow.Author.Needs.{needs}
 use Rattle.paper.proofs.Ranges.{ring-some, ring-most}
 use Rattle.speller.specs.Spells.{FieldJudged}
-use Rattle.speller.proofs.Giving.{gives-as, gives-refused, gives-field, holds-few}
+use Rattle.written.proofs.Meaning.{holds-few}
+use Rattle.speller.proofs.Giving.{gives-as, gives-refused, gives-field}
 use Rattle.speller.proofs.spell_within.Statement.{statement}
 use Rattle.speller.proofs.spell_within.Tie as tie
 

@@ -11,13 +11,13 @@ returns : tie.Need-returns
 unfolding bytes
 returns c =
     let h : tie.After-headed = c .before .before in
-    first-stops (bytes "del") number _ within-refl (h .headed .ensures) (c .if1 .taken)
+    λ _ _ _. first-stops (bytes "del") number _ within-refl (h .headed .ensures) (c .if1 .taken)
 
 returns-2 : tie.Need-returns-2
 unfolding bytes
 returns-2 c =
     let h : tie.After-headed = c .before .before .before in
-    del-line (h .headed .result) (part-took (h .headed .ensures) (c .before .if1 .left)) (c .closed .ensures)
+    λ _ _ _. del-line (h .headed .result) (part-took (h .headed .ensures) (c .before .if1 .left)) (c .closed .ensures)
 
 pub read-del-spec : {M : Type 1} → statement M
 read-del-spec =

@@ -13,7 +13,7 @@ returns : tie.Need-returns
 unfolding bytes
 returns c =
     let h : tie.After-headed = c .before .before in
-    first-stops (bytes "ext") number _ within-refl (h .headed .ensures) (c .if1 .taken)
+    λ _ _ _. first-stops (bytes "ext") number _ within-refl (h .headed .ensures) (c .if1 .taken)
 
 tab-number-requires : tie.Need-tab-number-requires
 tab-number-requires c κs =
@@ -25,7 +25,7 @@ unfolding bytes
 returns-2 c =
     let v : tie.After-tab-number = c .before .before in
     let e : tie.Else1 = v .before in
-    later-stops (bytes "ext") number _ within-refl (part-took (e .before .before .headed .ensures) (e .if1 .left))
+    λ _ _ _. later-stops (bytes "ext") number _ within-refl (part-took (e .before .before .headed .ensures) (e .if1 .left))
     (fails-first number _ (part-stuck (v .tab-number .ensures) (c .if2 .taken))) (c .if2 .taken)
 
 tab-field-requires : tie.Need-tab-field-requires
@@ -41,7 +41,7 @@ returns-3 c =
     let v : tie.After-tab-number = n .before .before in
     let e : tie.Else1 = v .before in
     let f = p .tab-field .ensures in
-    later-stops (bytes "ext") number _ (stated-kept (f .kept)) (part-took (e .before .before .headed .ensures) (e .if1 .left))
+    λ _ _ _. later-stops (bytes "ext") number _ (stated-kept (f .kept)) (part-took (e .before .before .headed .ensures) (e .if1 .left))
     (fails-then number _ (part-took (v .tab-number .ensures) (n .if2 .left) .taken) (fails-first field _ (part-stuck (f .part) (c .if3 .taken)))) (c .if3 .taken)
 
 returns-4 : tie.Need-returns-4
@@ -54,7 +54,7 @@ returns-4 c =
     let e : tie.Else1 = v .before in
     let h : tie.After-headed = e .before .before in
     let f = p .tab-field .ensures in
-    ext-line (p .tab-field .result) (f .kept) (h .headed .result) (v .tab-number .result) (part-took (h .headed .ensures) (e .if1 .left))
+    λ _ _ _. ext-line (p .tab-field .result) (f .kept) (h .headed .result) (v .tab-number .result) (part-took (h .headed .ensures) (e .if1 .left))
     (part-took (v .tab-number .ensures) (n .if2 .left)) (part-took (f .part) (o .if3 .left)) (c .before .before .lesser .ensures) (c .before .lesser2 .ensures) (c .closed .ensures)
 
 pub read-ext-spec : {M : Type 1} → statement M

@@ -15,7 +15,7 @@ returns : tie.Need-returns
 unfolding bytes
 returns c =
     let k : tie.After-keyword = c .before .before in
-    kind-stops goalLine within-refl refl (fails-first (literal (bytes "goal")) _ (word-refused (k .keyword .ensures) (c .enum-told .given .1) .1))
+    λ _ _ _. kind-stops goalLine within-refl refl (fails-first (literal (bytes "goal")) _ (word-refused (k .keyword .ensures) (c .enum-told .given .1) .1))
 
 tab-field-requires : tie.Need-tab-field-requires
 tab-field-requires c κs =
@@ -28,7 +28,7 @@ returns-2 c =
     let p : tie.After-tab-field = c .before .before .before .before in
     let k : tie.After-k = p .before .before .before in
     let f = p .tab-field .ensures in
-    kind-stops goalLine (stated-kept (f .kept)) (c .if1 .taken)
+    λ _ _ _. kind-stops goalLine (stated-kept (f .kept)) (c .if1 .taken)
     (fails-then (literal (bytes "goal")) _ (word-read (k .before .before .keyword .ensures) (k .k .given .1)) (fails-first field _ (part-stuck (f .part) (c .if1 .taken))))
 
 returns-3 : tie.Need-returns-3
@@ -38,7 +38,7 @@ returns-3 c =
     let p : tie.After-tab-field = e .before .before .before .before in
     let k : tie.After-k = p .before .before .before in
     let f = p .tab-field .ensures in
-    goal-line (p .tab-field .result) (f .kept) (word-read (k .before .before .keyword .ensures) (k .k .given .1)) (part-took (f .part) (e .if1 .left)) (c .closed .ensures)
+    λ _ _ _. goal-line (p .tab-field .result) (f .kept) (word-read (k .before .before .keyword .ensures) (k .k .given .1)) (part-took (f .part) (e .if1 .left)) (c .closed .ensures)
 
 pub read-goal-spec : {M : Type 1} → statement M
 read-goal-spec =

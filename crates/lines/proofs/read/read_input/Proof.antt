@@ -13,7 +13,7 @@ returns : tie.Need-returns
 unfolding bytes
 returns c =
     let h : tie.After-headed = c .before .before in
-    first-stops (bytes "in") number _ within-refl (h .headed .ensures) (c .if1 .taken)
+    λ _ _ _. first-stops (bytes "in") number _ within-refl (h .headed .ensures) (c .if1 .taken)
 
 tab-field-requires : tie.Need-tab-field-requires
 tab-field-requires c κs =
@@ -26,7 +26,7 @@ returns-2 c =
     let p : tie.After-tab-field = c .before .before .before .before in
     let e : tie.Else1 = p .before .before in
     let f = p .tab-field .ensures in
-    later-stops (bytes "in") number _ (stated-kept (f .kept)) (part-took (e .before .before .headed .ensures) (e .if1 .left))
+    λ _ _ _. later-stops (bytes "in") number _ (stated-kept (f .kept)) (part-took (e .before .before .headed .ensures) (e .if1 .left))
     (fails-first field _ (part-stuck (f .part) (c .if2 .taken))) (c .if2 .taken)
 
 returns-3 : tie.Need-returns-3
@@ -37,7 +37,7 @@ returns-3 c =
     let e : tie.Else1 = p .before .before in
     let h : tie.After-headed = e .before .before in
     let f = p .tab-field .ensures in
-    input-line (p .tab-field .result) (f .kept) (h .headed .result) (part-took (h .headed .ensures) (e .if1 .left)) (part-took (f .part) (n .if2 .left))
+    λ _ _ _. input-line (p .tab-field .result) (f .kept) (h .headed .result) (part-took (h .headed .ensures) (e .if1 .left)) (part-took (f .part) (n .if2 .left))
     (c .before .lesser .ensures) (c .closed .ensures)
 
 pub read-input-spec : {M : Type 1} → statement M

@@ -1,15 +1,13 @@
 -- `steps::state::State::step_del` meets its contract: the entry under the index is forgotten. Assumes nothing.
-use mathlib.Core.Path.{_≡_}
 use Prim.Native.Nat.{_+_, _≤_}
 use native.Mathlib.Omega.{arith}
-use lib.ListN.{length, getD}
-use Rattle.limits.specs.Limits.{storedPolynomials}
+use lib.ListN.{getD}
 use Rattle.table.specs.Columns.{FirstAt}
 use Rattle.table.proofs.Laws.{found-at, found-nothing}
 use Rattle.table.proofs.Packing.{ends-used, closable-starts}
 use Rattle.table.proofs.Forgetting.{forgotten}
 use Rattle.steps.specs.State.{Ready}
-use Rattle.steps.proofs.Stepping.{del-misplaced, del-missing, del-stands}
+use Rattle.steps.proofs.Stepping.{Long, del-misplaced, del-missing, del-stands}
 use borrow.Author.Needs.{needs}
 use Rattle.steps.proofs.state.State.step_del.Statement.{statement}
 use Rattle.steps.proofs.state.State.step_del.Tie as tie
@@ -35,16 +33,12 @@ returns-2 c =
     let b = begin (stood f) in
     λ capacity scratch room. del-missing (b .pre .0) (stood f .if1 .left) (found-nothing (c .before .enum-told .given .1) (f .find .ensures)) (c .with-verdict2 .ensures)
 
--- how long the columns are
-long : (c : tie.Start) → let t = c .args .t1 .table in (length (t .indices) ≡ storedPolynomials) × (length (t .starts) ≡ storedPolynomials) × (length (t .counts) ≡ storedPolynomials)
+long : (c : tie.Start) → Long (c .args .t1 .table)
 long c =
     let g = c .good .0 .1 .1 .1 .1 .0 .1 .1 in
-    let i = g .0 in
-    let s = g .1 .0 in
-    let n = g .1 .1 .0 in
-    (search needs, search needs, search needs)
+    (search (needs, g .0), search (needs, g .1 .0), search (needs, g .1 .1 .0))
 
-ready : (c : tie.After-known-told) → let b = start c in Ready (b .pre .1 .0) (b .args .t1 .lines) (b .args .t1) (b .args .pool .now) (b .pre .1 .1)
+ready : (c : tie.After-known-told) → let b = start c in Ready (b .pre .1 .0) (b .args .t1) (b .args .pool .now) (b .pre .1 .1)
 ready c = start c .pre .1 .2 .ready
 
 -- where the index was found
@@ -108,7 +102,7 @@ returns-3 c =
     λ capacity scratch room. del-stands (b .pre .0) _ _ _ room (stood (found k) .if1 .left) (first k)
     (forgotten (b .args .t1 .table) (b .args .pool .now) _ _ _ _ _ _ _ (room .ready .fitting .packed) (first k .inside) (omega (arith, room .ready .fitting .room, room .ready .fitting .words))
     (t .close-starts .ensures .0) (n .close-counts .ensures .0) (i .close-indices .ensures) (t .close-starts .ensures .1) (n .close-counts .ensures .1) (g .close-gap .ensures))
-    (search needs) (c .with-verdict3 .ensures)
+    (search needs) (c .stands .ensures)
 
 pub step-del-spec : {M : Type 1} → statement M
 step-del-spec =

@@ -49,7 +49,7 @@ returns-2 c =
     let f = field g in
     let b = begin (stood f) in
     λ capacity room p h. goal-stands h room (stood f .if1 .left) (f .reduce-field .ensures p h) (g .copy-to-goal .ensures) (u .union .ensures)
-    (s .is-stored .ensures (b .args .t1 .table .indices)) (c .with-verdict2 .ensures)
+    (s .is-stored .ensures (b .args .t1 .table .indices)) (c .stands .ensures)
 
 pub step-goal-spec : {M : Type 1} → statement M
 step-goal-spec =

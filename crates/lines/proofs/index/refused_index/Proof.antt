@@ -1,11 +1,11 @@
--- `lines::judge::refused_index` meets its contract: the index counts from TERMS on. No loop. Assumes nothing.
+-- `lines::index::refused_index` meets its contract: the index counts from TERMS on. No loop. Assumes nothing.
 use mathlib.Core.Path.{sym}
 use borrow.Author.Needs.{needs}
 use Rattle.paper.specs.Grammar as paper
-use Rattle.lines.proofs.Judging.{early-none}
+use Rattle.steps.proofs.Judging.{early-none}
 use Rattle.lines.proofs.Indexing.{reported}
-use Rattle.lines.proofs.judge.refused_index.Statement.{statement}
-use Rattle.lines.proofs.judge.refused_index.Tie as tie
+use Rattle.lines.proofs.index.refused_index.Statement.{statement}
+use Rattle.lines.proofs.index.refused_index.Tie as tie
 
 returns : tie.Need-returns
 returns c = let a = c .before .before .args in sym (early-none (a .v) (paper.statement (record { content = a .s .now; ended = a .ended })) (c .if1 .taken))
