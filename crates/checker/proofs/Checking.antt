@@ -1,80 +1,31 @@
 -- A checked text: no run ends with SHORT or LONGTEXT, so all that was read leaves its rooms zero. Assumes nothing.
 use mathlib.Core.Path.{_≡_, refl, sym, ap, _∙_}
-use mathlib.Core.Bool.{Bool, true, _||_, not}
-use mathlib.Core.List.{List, [], _∷_}
-use Prim.Native.Nat.{ℕ, suc, _/_, _*_, _≤_, _<_}
+use mathlib.Core.Bool.{true, false, not}
+use mathlib.Core.List.{List}
+use Prim.Native.Nat.{ℕ, _/_, _*_, _≤_, _<_}
 use native.Mathlib.Omega.{arith}
-use lib.Dec.{eqb}
+use lib.Dec.{leb}
 use lib.ListN.{length, replicate}
 use borrow.Author.Tests.{lt-ltb, le-ltb, not-true}
-use Rattle.ground.specs.Lists.{every}
-use Rattle.ground.proofs.Tests.{and-left, and-right, by-cond}
+use Rattle.ground.proofs.Tests.{and-left}
 use Rattle.limits.specs.Limits.{textBytes, leastPool, leastScratch, mostPoolTerms, termWords}
-use Rattle.limits.specs.Verdicts.{SHORT, LONGTEXT, FORM}
-use Rattle.paper.specs.Rules.{first, steps, start, rules}
-use Rattle.paper.specs.Grammar.{Bytes, Read, got, stuck}
-use Rattle.paper.specs.Statement.{Statement}
-use Rattle.paper.specs.Rules as paper
+use Rattle.limits.specs.Verdicts.{SHORT, LONGTEXT, NAMES}
+use Rattle.paper.specs.Rules.{start}
+use Rattle.paper.specs.Grammar.{Bytes}
 use Rattle.paper.specs.Answer as answers
-use Rattle.paper.specs.Answer.{Outcome, stands, refused, judge, Item, judgeItem, items, report, ending, run, capacityOf, unread, answer, roomAfter}
+use Rattle.paper.specs.Answer.{items, run, capacityOf, unread, answer, roomAfter}
+use Rattle.paper.proofs.Verdicts.{early, late, text-late}
 use Rattle.checker.specs.declared.answer.Answer.{Answer}
 use Rattle.checker.specs.Checked.{answerOf, Ran, Checked}
-
--- ---- the verdicts of texts that were not read
-abbrev early : ℕ → Bool
-early v = eqb v SHORT || eqb v LONGTEXT
-
-abbrev late : ℕ → Bool
-late v = not (early v)
-
-abbrev Later : Outcome → Type 0
-Later (stands s) = Unit {0}
-Later (refused v i) = late v ≡ true
-
-first-late : (rs : List (ℕ × Bool)) → every (λ r. late (r .0)) rs ≡ true → late (first rs) ≡ true
-unfolding first every
-first-late [] h = refl
-first-late (r ∷ rs) h =
-    by-cond (λ (v : ℕ). late v ≡ true) (r .1)
-    (λ _. and-left (late (r .0)) (every (λ r. late (r .0)) rs) h)
-    (λ _. first-late rs (and-right (late (r .0)) (every (λ r. late (r .0)) rs) h))
-
-module _ (capacity : ℕ) where
-  read-late : (s : paper.State) (r : Read Statement) → Later (elim r [ got st t ↦ judge capacity s st | stuck t ↦ refused FORM 0 ])
-  unfolding judge rules every
-  read-late s (got st r) =
-      by-cond Later (eqb (first (rules capacity s st)) 0) (λ _. tt) (λ _. first-late (rules capacity s st) refl)
-  read-late s (stuck r) = refl
-
-  item-late : (s : paper.State) (i : Item) → Later (judgeItem capacity s i)
-  unfolding judgeItem
-  item-late s i = by-cond Later (i .long) (λ _. refl) (λ _. read-late s (i .reads))
-
-  ending-late : (s : paper.State) (n : ℕ) → late (ending s n .verdict) ≡ true
-  unfolding ending report
-  ending-late s n = by-cond Late (eqb (s .phase) steps) (λ _. by-cond Late (s .reached) (λ _. refl) (λ _. refl)) (λ _. refl)
-    where
-      Late : answers.Answer → Type 0
-      Late a = late (a .verdict) ≡ true
-
-  run-late : (s : paper.State) (n : ℕ) (is : List Item) → late (run capacity s n is .verdict) ≡ true
-  unfolding run report
-  run-late s n [] = ending-late s n
-  run-late s n (i ∷ is) = go (judgeItem capacity s i) (item-late s i) (λ s′. run-late s′ (suc n) is)
-    where
-      go : (o : Outcome) → Later o → ((s′ : paper.State) → late (run capacity s′ (suc n) is .verdict) ≡ true)
-          → late (elim o as (λ _. answers.Answer) [ stands s′ ↦ run capacity s′ (suc n) is | refused v j ↦ report s v (suc n) j ] .verdict) ≡ true
-      go (stands s′) h rest = rest s′
-      go (refused v i) h rest = h
 
 -- ---- rooms
 room-kept : (v : ℕ) (room : List ℕ) → early v ≡ true → room ≡ roomAfter v room
 unfolding roomAfter
 room-kept v room e = rw e refl
 
-room-zeroed : (v : ℕ) (room : List ℕ) → late v ≡ true → replicate (length room) 0 ≡ roomAfter v room
+room-zeroed : (v : ℕ) (room : List ℕ) → early v ≡ false → replicate (length room) 0 ≡ roomAfter v room
 unfolding roomAfter
-room-zeroed v room e = rw (not-true (early v) e) refl
+room-zeroed v room e = rw e refl
 
 -- ---- the terms that a pool holds
 pub capacity-most : (n : ℕ) → mostPoolTerms < n / termWords → mostPoolTerms ≡ capacityOf n
@@ -122,9 +73,10 @@ module _ {text : Bytes} {pool scratch : List ℕ} {a : Answer} where
     pub checked-run : length text ≤ textBytes → {capacity : ℕ} {p q p′ q′ : List ℕ} → capacity ≡ capacityOf (length pool) → Ran capacity text pool scratch a p q
         → p′ ≡ replicate (length p) 0 → q′ ≡ replicate (length q) 0 → Checked text pool scratch a p′ q′
     checked-run l {capacity} c r d e =
-        let w : late (a .verdict) ≡ true = ap (λ (x : answers.Answer). late (x .verdict)) (r .answer) ∙ run-late capacity start 0 (items text) in
+        let v : ℕ = a .verdict in
+        let w : early v ≡ false = not-true (early v) (and-left (not (early v)) (leb v NAMES) (ap (λ (x : answers.Answer). late (x .verdict)) (r .answer) ∙ text-late capacity start 0 text)) in
         record {
           answer = r .answer ∙ ap (λ (n : ℕ). run n start 0 (items text)) c ∙ sym (whole text (length pool) (length scratch) g h l);
-          pool-after = d ∙ ap (λ (n : ℕ). replicate n 0) (r .pool-length) ∙ room-zeroed (a .verdict) pool w;
-          scratch-after = e ∙ ap (λ (n : ℕ). replicate n 0) (r .scratch-length) ∙ room-zeroed (a .verdict) scratch w;
+          pool-after = d ∙ ap (λ (n : ℕ). replicate n 0) (r .pool-length) ∙ room-zeroed v pool w;
+          scratch-after = e ∙ ap (λ (n : ℕ). replicate n 0) (r .scratch-length) ∙ room-zeroed v scratch w;
         }

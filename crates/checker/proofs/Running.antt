@@ -12,7 +12,7 @@ use Rattle.ground.proofs.Tests.{split, and-left, and-right, cond-yes, cond-no}
 use Rattle.limits.specs.Limits.{textBytes, mostPoolTerms, termWords, leastScratch}
 use Rattle.limits.specs.Verdicts.{ACCEPTED, NOGOAL, NOTREACHED}
 use Rattle.words.specs.Parts.{part}
-use Rattle.paper.specs.Grammar.{Bytes, got, lines, statement}
+use Rattle.paper.specs.Grammar.{Bytes, got, endedBy, lines, statement}
 use Rattle.paper.specs.Statement.{Statement, numbersInRange}
 use Rattle.paper.specs.Rules as paper
 use Rattle.paper.specs.Rules.{steps, start}
@@ -54,7 +54,7 @@ module _ {a : answers.Answer} (s : paper.State) (n : ℕ) where
 
 -- ---- the next line
 next-line : {text : Bytes} {at e : ℕ} → LineEnd text at e → at < length text → lines (drop at text) ≡ lineAt text at e ∷ lines (drop (e + 1) text)
-unfolding lines
+unfolding lines endedBy
 next-line {text} {at} {e} h l = go (ltb e (length text)) refl
   where
     go : (b : Bool) → ltb e (length text) ≡ b → lines (drop at text) ≡ record { content = part at (e - at) text; ended = b } ∷ lines (drop (e + 1) text)
@@ -180,7 +180,7 @@ module _ {capacity : ℕ} {text : Bytes} {r : Step} {from at : ℕ} {pool scratc
 
   pub going-end : {a : answers.Answer} → (eqb (r .verdict) 0 && ltb at (length text)) ≡ false
       → ((pool scratch : List ℕ) → a ≡ concluded (stateOf (r .state) pool scratch) (r .state .lines) (r .verdict) (lineAt text from (at - 1))) → a ≡ answers.run capacity start 0 (items text)
-  unfolding answers.run items lines
+  unfolding answers.run items lines endedBy
   going-end {a} f c = ⊎-elim (λ e. yes (eqb-true (r .verdict) 0 e)) (λ e. c pool scratch ∙ sym (g .off (eqb-false (r .verdict) 0 e) .answer pool scratch)) (split (eqb (r .verdict) 0))
     where
       yes : r .verdict ≡ 0 → a ≡ answers.run capacity start 0 (items text)

@@ -28,6 +28,9 @@ textBytes = 1048576
 abbrev pub lineBytes : ℕ
 lineBytes = 8192
 
+abbrev pub nameBytes : ℕ
+nameBytes = 31
+
 abbrev pub fieldTerms : ℕ
 fieldTerms = 96
 

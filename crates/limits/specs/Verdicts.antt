@@ -51,3 +51,7 @@ NOGOAL = 15
 
 abbrev pub NOTREACHED : ℕ
 NOTREACHED = 16
+
+-- of published texts, directly after TERMS
+abbrev pub NAMES : ℕ
+NAMES = 17

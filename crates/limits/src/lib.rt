@@ -19,6 +19,8 @@ pub const TEXT_BYTES: usize = 1048576;
 
 pub const LINE_BYTES: usize = 8192;
 
+pub const NAME_BYTES: usize = 31;
+
 pub const FIELD_TERMS: usize = 96;
 
 pub const STORED_POLYNOMIALS: usize = 512;
@@ -76,3 +78,6 @@ pub const FULL: u64 = 14;
 pub const NOGOAL: u64 = 15;
 
 pub const NOTREACHED: u64 = 16;
+
+// Of published texts, directly after TERMS.
+pub const NAMES: u64 = 17;

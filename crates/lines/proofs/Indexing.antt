@@ -12,15 +12,16 @@ use borrow.Author.Tests.{le-leb, eqb-true, eqb-false}
 use Rattle.ground.proofs.Tests.{split, and-left, by-cond}
 use Rattle.ground.specs.Lists.{every}
 use Rattle.limits.specs.Limits.{greatestIndex, lineBytes}
-use Rattle.limits.specs.Verdicts.{ACCEPTED, FORM, NUMBER, TERMS}
+use Rattle.limits.specs.Verdicts.{ACCEPTED, NUMBER, TERMS}
 use Rattle.paper.specs.Rules as paper
-use Rattle.paper.specs.Rules.{first, rules}
+use Rattle.paper.specs.Rules.{first, writtenRules, rules}
 use Rattle.paper.specs.Grammar.{Bytes, bytes, Line, Read, got, stuck, Reader, next, give, literal, end, number, field, pairs, LineKind, wholeLine, ringLine, goalLine, kinds, beginsAlike, oneOf, statement}
 use Rattle.paper.specs.Statement.{modulo, Statement, ring, input, goal, lin, del, ext, within, isIndex, isVariable, inRange, numbersInRange}
 use Rattle.paper.specs.Answer.{Outcome, stands, refused, indexOf, judge, judgeItem, itemOf}
 use Rattle.paper.proofs.Reading.{clash, parted}
-use Rattle.steps.specs.Items.{verdictOf, indexOfRead}
-use Rattle.lines.specs.Parts.{always, keyed, pairRanged, Taken, NumberPart}
+use Rattle.steps.specs.Items.{indexOfRead}
+use Rattle.lines.specs.Parts.{verdictOf, always, keyed, pairRanged, Taken, NumberPart}
+use Rattle.lines.specs.Lines.{shortItem}
 use Rattle.lines.specs.declared.part.NumberRead.{NumberRead}
 use Rattle.lines.proofs.LineKinds.{no-kind}
 use Rattle.lines.proofs.Statements.{ranged-input, ranged-lin, ranged-del, ranged-ext}
@@ -183,21 +184,24 @@ abbrev WasRead : Read Statement → Outcome → Type 0
 WasRead x (stands s) = Unit {0}
 WasRead x (refused v i) = TERMS ≤ v → (st : Statement) × (t : Bytes) × (x ≡ got st t) × (numbersInRange st ≡ true)
 
-outside : (capacity : ℕ) (s : paper.State) (st : Statement) → numbersInRange st ≡ false → first (rules capacity s st) ≡ NUMBER
-unfolding first rules
-outside capacity s st e = rw e
+outside : (st : Statement) → numbersInRange st ≡ false → first (writtenRules st) ≡ NUMBER
+unfolding first writtenRules
+outside st e = rw e
 
-judge-read : (capacity : ℕ) (s : paper.State) (st : Statement) (t : Bytes) → (numbersInRange st ≡ true) ⊎ (numbersInRange st ≡ false) → WasRead (got st t) (judge capacity s st)
+judge-read : (capacity : ℕ) (s : paper.State) (st : Statement) (t : Bytes) → (numbersInRange st ≡ true) ⊎ (numbersInRange st ≡ false)
+    → WasRead (got st t) (judge capacity s (first (writtenRules st)) st)
 unfolding judge
-judge-read capacity s st t (inl e) = by-cond (WasRead (got st t)) (eqb (first (rules capacity s st)) 0) (λ _. tt) (λ _ _. (st, t, refl, e))
-judge-read capacity s st t (inr e) = rw (outside capacity s st e) (λ m. absurd (let z : ⊥ = omega arith in z))
+judge-read capacity s st t (inl e) =
+    let w : ℕ = first (writtenRules st) in
+    by-cond (WasRead (got st t)) (eqb (cond (eqb w ACCEPTED) (first (rules capacity s st)) w) ACCEPTED) (λ _. tt) (λ _ _. (st, t, refl, e))
+judge-read capacity s st t (inr e) = rw (outside st e) (λ m. absurd (let z : ⊥ = omega arith in z))
 
 item-read : (capacity : ℕ) (s : paper.State) (l : Line) → WasRead (statement l) (judgeItem capacity s (itemOf l))
 unfolding judgeItem itemOf
 item-read capacity s l =
     by-cond (WasRead (statement l)) (ltb lineBytes (length (l .content))) (λ _ m. absurd (let z : ⊥ = omega arith in z)) (λ _. go (statement l))
   where
-    go : (x : Read Statement) → WasRead x (elim x [ got st t ↦ judge capacity s st | stuck t ↦ refused FORM 0 ])
+    go : (x : Read Statement) → WasRead x (judgeItem capacity s (shortItem x))
     go (got st t) = judge-read capacity s st t (split (numbersInRange st))
     go (stuck t) = λ m. absurd (let z : ⊥ = omega arith in z)
 

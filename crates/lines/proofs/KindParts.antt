@@ -25,14 +25,13 @@ use Rattle.sums.specs.declared.Sum.{Sum}
 use Rattle.sums.specs.Sums.{Summed}
 use Rattle.steps.specs.declared.said.Said.{Said}
 use Rattle.steps.specs.declared.said.Said.the-variants.{Ring, Input, Goal, Lin, Del, Ext, Refused}
-use Rattle.steps.specs.Items.{verdictOf, fewInFields}
-use Rattle.lines.specs.Parts.{lesserOf, always, fewTerms, pairRanged, pairFew, Taken, Piece, keyed}
+use Rattle.lines.specs.Parts.{verdictOf, lesserOf, always, fewTerms, pairRanged, pairFew, Taken, Piece, keyed}
 use Rattle.lines.specs.Lines.{closedOf, KindIs}
 use Rattle.lines.specs.declared.part.NumberRead.{NumberRead}
 use Rattle.lines.specs.declared.pairs.PairsRead.{PairsRead}
 use Rattle.lines.proofs.Parts.{verdict-both, lesser-accepted, got-as, fails-as, part-stuck}
 use Rattle.lines.proofs.LineKinds.{kind-stops, kind-closes}
-use Rattle.lines.proofs.Statements.{ranged-ring, ranged-input, ranged-goal, ranged-lin, ranged-del, ranged-ext, few-one, few-lin}
+use Rattle.lines.proofs.Statements.{ranged-ring, ranged-input, ranged-goal, ranged-lin, ranged-del, ranged-ext, fewInFields, few-one, few-lin}
 
 -- ---- a keyword, a first part, and what G reads behind them
 module _ (w : Bytes) {A : Type 0} (read : Reader A) (G : A → Reader Statement) where

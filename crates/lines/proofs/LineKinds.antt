@@ -28,10 +28,11 @@ use Rattle.sums.specs.declared.Sum.{Sum}
 use Rattle.steps.specs.declared.said.Said.{Said}
 use Rattle.steps.specs.declared.said.Said.the-variants.{Refused}
 use Rattle.steps.specs.declared.said.ItemRead.{ItemRead}
-use Rattle.steps.specs.Items.{fewInFields, Means, Tells, long, stops, turns, passes, ItemIs}
+use Rattle.steps.specs.Items.{Means, Tells, long, stops, turns, passes, ItemIs}
 use Rattle.lines.specs.Parts.{Taken, keyed}
-use Rattle.lines.specs.Lines.{closedOf, KindIs}
+use Rattle.lines.specs.Lines.{closedOf, shortItem, KindIs}
 use Rattle.lines.proofs.Parts.{verdict-accepted}
+use Rattle.lines.proofs.Statements.{fewInFields, verdict-written}
 
 -- ---- keywords
 module _ {read : Reader (Unit {0})} {s : Bytes} {at : ℕ} {k : Word} (w : WordIs read s at k) where
@@ -80,6 +81,9 @@ module _ (kind : LineKind) {s : Bytes} {P : Statement → Type 0} {e why : ℕ} 
   all-read : length s ≤ e → wholeLine kind s ≡ got (t .value) (drop e s)
   all-read h = let i = t .taken .inside in closing kind s ∙ got-then (headedBy kind) _ (t .taken) (got-then end _ (end-here s e h i) (got-give (t .value) i)) .reads
 
+  as-written : length s ≤ e → shortItem (wholeLine kind s) .written ≡ why
+  as-written h = ap (λ (x : Read Statement). shortItem x .written) (all-read h) ∙ verdict-written (t .value) ∙ sym (t .verdict)
+
 module _ {k : ℕ} {store : Store} (kind : LineKind) {s : Bytes} {words words′ : List ℕ} {sum : Sum} (kept : Within 0 goalAt words words′) where
   pub kind-stops : {why p : ℕ} → why ≡ FORM → Fails (headedBy kind) s 0 p → KindIs k store kind s words words′ sum (Refused why)
   kind-stops {why} {p} e f =
@@ -89,11 +93,12 @@ module _ {k : ℕ} {store : Store} (kind : LineKind) {s : Bytes} {words words′
     stands : length s ≤ e → why ≡ ACCEPTED → KindIs k store kind s words words′ sum read
     stands h a =
         let v = verdict-accepted (numbersInRange (t .value)) (fewInFields (t .value)) (sym (t .verdict) ∙ a) in
-        record { tells = passes refl (t .value) (drop e s) (all-read kind t h) (v .0) (v .1) (t .holds a); kept = kept }
+        record { tells = passes refl (t .value) (drop e s) (all-read kind t h) (as-written kind t h ∙ a) v (t .holds a); kept = kept }
 
     turned : length s ≤ e → (why ≡ ACCEPTED → ⊥) → KindIs k store kind s words words′ sum (Refused why)
     turned h n =
-        record { tells = turns refl (t .value) (drop e s) (all-read kind t h) (ap (λ (v : ℕ). Refused v) (t .verdict)) (λ a. n (t .verdict ∙ a)); kept = kept }
+        let w = sym (as-written kind t h) in
+        record { tells = turns refl (t .value) (drop e s) (all-read kind t h) (ap (λ (v : ℕ). Refused v) w) (λ a. n (w ∙ a)); kept = kept }
 
     pub kind-closes : {r : Said} → r ≡ closedOf (length s) e why read → KindIs k store kind s words words′ sum r
     unfolding closedOf
@@ -116,10 +121,6 @@ said-so {k} {store} i {words} {words′} {r} e h = subst (λ (x : Said). ItemIs 
 abbrev lineOf : Bytes → Bool → Line
 lineOf s ended = record { content = s; ended = ended }
 
--- a line that is not too long
-abbrev shortItem : Line → Item
-shortItem l = record { long = false; reads = statement l }
-
 begins : {s : Bytes} → 0 < length s → (b : ℕ) → getD s 0 0 ≡ b → s ≡ b ∷ drop 1 s
 begins {s} h b e = drop-cons s 0 0 h ∙ ap (λ (x : ℕ). x ∷ drop 1 s) e
 
@@ -134,22 +135,22 @@ no-kind s h r i g l d e =
 
 module _ {k : ℕ} {store : Store} (s : Bytes) {words : List ℕ} {r : ItemRead} where
   pub kind-line : {words′ : List ℕ} (b : ℕ) (kind : LineKind) → ((w : Bytes) → oneOf kinds (b ∷ w) ≡ wholeLine kind (b ∷ w)) → 0 < length s → getD s 0 0 ≡ b
-      → KindIs k store kind s words words′ (r .sum) (r .said) → ItemIs k store (shortItem (lineOf s true)) words words′ r
+      → KindIs k store kind s words words′ (r .sum) (r .said) → ItemIs k store (shortItem (statement (lineOf s true))) words words′ r
   unfolding statement
   kind-line {words′} b kind first h e x =
-      record { tells = subst (λ (y : Read Statement). Tells k store (record { long = false; reads = y }) words′ (r .sum) (r .said)) (sym here) (x .tells); kept = x .kept }
+      record { tells = subst (λ (y : Read Statement). Tells k store (shortItem y) words′ (r .sum) (r .said)) (sym here) (x .tells); kept = x .kept }
     where
       here : oneOf kinds s ≡ wholeLine kind s
       here = subst (λ (l : Bytes). oneOf kinds l ≡ wholeLine kind l) (sym (begins h b e)) (first (drop 1 s))
 
-  refused-line : (ended : Bool) (t : Bytes) → statement (lineOf s ended) ≡ stuck t → r .said ≡ Refused FORM → ItemIs k store (shortItem (lineOf s ended)) words words r
+  refused-line : (ended : Bool) (t : Bytes) → statement (lineOf s ended) ≡ stuck t → r .said ≡ Refused FORM → ItemIs k store (shortItem (statement (lineOf s ended))) words words r
   refused-line ended t e q = record { tells = stops refl t e q; kept = within-refl }
 
   pub no-line : 0 < length s → (getD s 0 0 ≡ 114 → ⊥) → (getD s 0 0 ≡ 105 → ⊥) → (getD s 0 0 ≡ 103 → ⊥) → (getD s 0 0 ≡ 108 → ⊥) → (getD s 0 0 ≡ 100 → ⊥)
-      → (getD s 0 0 ≡ 101 → ⊥) → r .said ≡ Refused FORM → ItemIs k store (shortItem (lineOf s true)) words words r
+      → (getD s 0 0 ≡ 101 → ⊥) → r .said ≡ Refused FORM → ItemIs k store (shortItem (statement (lineOf s true))) words words r
   no-line h r i g l d e = refused-line true s (no-kind s h r i g l d e)
 
-  pub empty-line : length s ≡ 0 → r .said ≡ Refused FORM → ItemIs k store (shortItem (lineOf s true)) words words r
+  pub empty-line : length s ≡ 0 → r .said ≡ Refused FORM → ItemIs k store (shortItem (statement (lineOf s true))) words words r
   unfolding statement kinds oneOf beginsAlike bytes
   empty-line h = refused-line true [] (go s h)
     where
@@ -163,11 +164,11 @@ module _ {k : ℕ} {store : Store} (s : Bytes) {words : List ℕ} {r : ItemRead}
   long-line ended h q = record { tells = long (lt-ltb lineBytes (length s) h) q; kept = within-refl }
 
   module _ (h : length s ≤ lineBytes) where
-    short-line : (ended : Bool) {words′ : List ℕ} → ItemIs k store (shortItem (lineOf s ended)) words words′ r → ItemIs k store (itemOf (lineOf s ended)) words words′ r
+    short-line : (ended : Bool) {words′ : List ℕ} → ItemIs k store (shortItem (statement (lineOf s ended))) words words′ r → ItemIs k store (itemOf (lineOf s ended)) words words′ r
     unfolding itemOf
     short-line ended x = rw (le-ltb lineBytes (length s) h) x
 
-    pub ended-line : {words′ : List ℕ} (ended : Bool) → ended ≡ true → ItemIs k store (shortItem (lineOf s true)) words words′ r
+    pub ended-line : {words′ : List ℕ} (ended : Bool) → ended ≡ true → ItemIs k store (shortItem (statement (lineOf s true))) words words′ r
         → ItemIs k store (itemOf (lineOf s ended)) words words′ r
     ended-line ended e x = rw e (short-line true x)
 

@@ -1,6 +1,6 @@
 -- Parts of a line: their verdicts, one part behind another or behind a tab, and numbers. Assumes nothing.
 use mathlib.Core.Path.{_≡_, refl, sym, ap, ap₂, _∙_}
-use mathlib.Core.Bool.{Bool, true, false, _&&_, cond}
+use mathlib.Core.Bool.{Bool, true, false, _&&_, not, cond}
 use mathlib.Core.Logic.{inl, inr, ⊎-elim}
 use Prim.Native.Nat.{ℕ, _+_, _≤_, _<_}
 use native.Mathlib.Numerals.{add-one}
@@ -19,8 +19,11 @@ use Rattle.reader.specs.Numbers.{InRange}
 use Rattle.reader.specs.declared.number.Refusal.{Refusal}
 use Rattle.reader.proofs.Numbers.{within-yes, RefusedAs}
 use Rattle.reader.proofs.Following.{got-then, got-give, fails-then, fails-first}
-use Rattle.steps.specs.Items.{verdictOf}
-use Rattle.lines.specs.Parts.{lesserOf, always, Taken, Piece}
+use Rattle.lines.specs.Parts.{verdictOf, lesserOf, always, Taken, Piece}
+
+pub not-not : (b : Bool) → b ≡ not (not b)
+not-not true = refl
+not-not false = refl
 
 -- ---- verdicts
 -- of two parts
@@ -40,10 +43,9 @@ verdict-form true true e = omega arith
 verdict-form true false e = omega arith
 verdict-form false b e = omega arith
 
-pub verdict-accepted : (a b : Bool) → verdictOf a b ≡ ACCEPTED → (a ≡ true) × (b ≡ true)
+pub verdict-accepted : (a b : Bool) → verdictOf a b ≡ ACCEPTED → a ≡ true
 unfolding first
-verdict-accepted true true e = (refl, refl)
-verdict-accepted true false e = absurd (let z : ⊥ = omega arith in z)
+verdict-accepted true b e = refl
 verdict-accepted false b e = absurd (let z : ⊥ = omega arith in z)
 
 pub lesser-accepted : (v w : ℕ) → lesserOf v w ≡ ACCEPTED → (v ≡ ACCEPTED) × (w ≡ ACCEPTED)

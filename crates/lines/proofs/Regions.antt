@@ -27,11 +27,7 @@ use Rattle.reader.proofs.Ranges.{field-fine, field-holds}
 use Rattle.lines.specs.Parts.{lesserOf, fewTerms, pairRanged, pairFew, Taken, Piece, NumberPart, FieldPart, PairPart}
 use Rattle.lines.specs.declared.part.NumberRead.{NumberRead}
 use Rattle.lines.specs.declared.part.PairRead.{PairRead}
-use Rattle.lines.proofs.Parts.{part-stuck, part-took, part-behind, took-map, took-then, tabbed, tab-got, tab-fails}
-
-not-not : (b : Bool) → b ≡ not (not b)
-not-not true = refl
-not-not false = refl
+use Rattle.lines.proofs.Parts.{not-not, part-stuck, part-took, part-behind, took-map, took-then, tabbed, tab-got, tab-fails}
 
 -- ---- a field in a region that was lent, and came back as y
 module _ (s : Bytes) (at base : ℕ) (words y : List ℕ) (l : base + fieldTerms * termWords ≤ length words) (r : FieldRead) where

@@ -5,9 +5,11 @@ use mathlib.Core.List.{List, [], _∷_, map}
 use Prim.Native.Nat.{ℕ}
 use Rattle.ground.specs.Lists.{every, any}
 use Rattle.limits.specs.Limits.{greatestRing}
-use Rattle.paper.specs.Statement.{Written, Pair, modulo, ring, input, goal, lin, del, ext, newIndex, namedIndices, fields, within, isRing, isIndex, isVariable, inRange, numbersInRange, tooManyTerms}
-use Rattle.lines.specs.Parts.{fewTerms, pairRanged, pairFew}
-use Rattle.steps.specs.Items.{fewInFields}
+use Rattle.limits.specs.Verdicts.{NUMBER, TERMS}
+use Rattle.paper.specs.Statement.{Written, Pair, modulo, Statement, ring, input, goal, lin, del, ext, newIndex, namedIndices, fields, within, isRing, isIndex, isVariable, inRange, numbersInRange, tooManyTerms}
+use Rattle.paper.specs.Rules.{first, writtenRules}
+use Rattle.lines.specs.Parts.{verdictOf, fewTerms, pairRanged, pairFew}
+use Rattle.lines.proofs.Parts.{not-not}
 
 not-or : (a b : Bool) → (not a && not b) ≡ not (a || b)
 not-or true b = refl
@@ -54,6 +56,9 @@ unfolding numbersInRange newIndex namedIndices fields every
 ranged-ext i v p = simp and-true (ap (λ (b : Bool). b && inRange p) (and-comm (isIndex i) (isVariable v)))
 
 -- ---- terms: one polynomial, and one with pairs
+unfoldable pub fewInFields : Statement → Bool
+fewInFields st = not (any tooManyTerms (fields st))
+
 pub few-one : (p : Written) → fewTerms p ≡ not (any tooManyTerms (p ∷ []))
 unfolding fewTerms any
 few-one p = sym (and-true (fewTerms p)) ∙ not-or (tooManyTerms p) false
@@ -66,3 +71,8 @@ few-pairs (q ∷ qs) = ap (λ (b : Bool). fewTerms (q .factor) && b) (few-pairs 
 pub few-lin : (i : ℕ) (p : Written) (qs : List Pair) → (fewTerms p && every pairFew qs) ≡ fewInFields (lin i p qs)
 unfolding fewInFields fields any fewTerms
 few-lin i p qs = ap (λ (b : Bool). fewTerms p && b) (few-pairs qs) ∙ not-or (tooManyTerms p) (any tooManyTerms (map (λ q. q .factor) qs))
+
+-- ---- both
+pub verdict-written : (st : Statement) → first (writtenRules st) ≡ verdictOf (numbersInRange st) (fewInFields st)
+unfolding writtenRules fewInFields
+verdict-written st = ap (λ (b : Bool). first ((NUMBER, not (numbersInRange st)) ∷ (TERMS, b) ∷ [])) (not-not (any tooManyTerms (fields st)))

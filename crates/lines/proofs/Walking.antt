@@ -10,11 +10,10 @@ use lib.ListN.{length, drop, getD}
 use borrow.Author.Tests.{ltb-true, ltb-false, eqb-false}
 use Rattle.ground.specs.Lists.{every}
 use Rattle.ground.proofs.Lists.{every-more}
-use Rattle.ground.proofs.Tests.{and-left}
 use Rattle.limits.specs.Verdicts.{ACCEPTED}
 use Rattle.words.specs.Parts.{Within}
 use Rattle.paper.specs.Grammar.{Bytes, Read, got, stuck, Reader, next, give, tab, pair, morePairs, pairs}
-use Rattle.paper.specs.Statement.{Written, Pair, isIndex, inRange}
+use Rattle.paper.specs.Statement.{Written, Pair}
 use Rattle.paper.specs.Rules.{first, Store}
 use Rattle.paper.proofs.Reading.{takes-pair, each-more, each-stuck, each-stop, each-end}
 use Rattle.written.specs.Worded.{Holds}
@@ -24,10 +23,9 @@ use Rattle.sums.specs.Sums.{Summed}
 use Rattle.sums.proofs.Summing.{summed-kept}
 use Rattle.reader.specs.Places.{Fails}
 use Rattle.reader.proofs.Following.{fails-first, ItemsUpTo, passed-none, passed-more, passed-stuck, passed-stop}
-use Rattle.steps.specs.Items.{verdictOf}
-use Rattle.lines.specs.Parts.{lesserOf, pairRanged, pairFew, Taken}
+use Rattle.lines.specs.Parts.{verdictOf, lesserOf, pairRanged, pairFew, Taken}
 use Rattle.lines.specs.declared.part.PairRead.{PairRead}
-use Rattle.lines.proofs.Parts.{verdict-both, verdict-accepted, lesser-accepted, got-as, fails-as, tabbed, tab-inside, tab-byte, tab-got, tab-fails}
+use Rattle.lines.proofs.Parts.{verdict-both, lesser-accepted, got-as, fails-as, tabbed, tab-inside, tab-byte, tab-got, tab-fails}
 
 -- ---- one pair or more, and as many as follow
 module _ (s : Bytes) (at : ℕ) where
@@ -65,10 +63,6 @@ pub pairs-none : {k : ℕ} {store : Store} {words : List ℕ} {sum : Sum} (s : B
 unfolding every first
 pairs-none s at h u = passed-none (code "\t") pair s at h (refl, λ _. u)
 
-index-ranged : (q : Pair) → pairRanged q ≡ true → isIndex (q .index) ≡ true
-unfolding pairRanged
-index-ranged q e = and-left (isIndex (q .index)) (inRange (q .factor)) e
-
 -- a pair in the factor's region
 abbrev PairStands : Bytes → ℕ → List ℕ → PairRead → Type 0
 PairStands s at words r = Taken pair pairRanged pairFew (λ q. (r .index ≡ q .index) × Holds (q .factor) (r .terms) factorAt words) s at (r .end) (r .why)
@@ -100,21 +94,13 @@ module _ {k : ℕ} {store : Store} {s : Bytes} {at : ℕ} {words : List ℕ} {su
         both : (why ≡ ACCEPTED) × (r .why ≡ ACCEPTED)
         both = lesser-accepted why (r .why) (sym c ∙ a)
 
-        ranged : pairRanged (u .value) ≡ true
-        ranged = verdict-accepted (pairRanged (u .value)) (pairFew (u .value)) (sym (u .verdict) ∙ both .1) .0
-
         -- the sum, where the factor was read
         still-summed : (qs : List Pair) → (why ≡ ACCEPTED → Summed k store qs words sum) → Summed k store qs words′ sum
         still-summed qs g = summed-kept factorAt goalAt kept (omega arith) (g (both .0))
 
-        -- the last three of `add_factor`
-        pub pairs-ask : (isIndex (r .index) ≡ true) × ((w : Written) × Holds w (r .terms) factorAt words′) × ((qs : List Pair) × Summed k store qs words′ sum)
-        pairs-ask =
-            let h = u .holds (both .1) in (
-              ap isIndex (h .0) ∙ index-ranged (u .value) ranged,
-              (u .value .factor, h .1),
-              (p .items, still-summed (p .items) (p .holds .1)),
-            )
+        -- the last two of `add_factor`
+        pub pairs-ask : ((w : Written) × Holds w (r .terms) factorAt words′) × ((qs : List Pair) × Summed k store qs words′ sum)
+        pairs-ask = ((u .value .factor, u .holds (both .1) .1), (p .items, still-summed (p .items) (p .holds .1)))
 
         pub pairs-more : {words″ : List ℕ} {sum′ : Sum}
             → ((w : Written) → Holds w (r .terms) factorAt words′ → (qs : List Pair) → Summed k store qs words′ sum

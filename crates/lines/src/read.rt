@@ -1,6 +1,6 @@
 // A line read, once: its kind with its numbers, its polynomial as it was written, in the stated region of the scratch, and the sum of its pairs.
 ghost use mathlib.Core.Path.{_≡_};
-ghost use mathlib.Core.Bool.{true, false};
+ghost use mathlib.Core.Bool.{true};
 ghost use Prim.Native.Nat.{ℕ, _≤_, _<_};
 ghost use lib.ListN.{length};
 ghost use Rattle.limits.specs.Limits.{greatestIndex, leastScratch};
@@ -13,7 +13,7 @@ ghost use Rattle.sums.specs.declared.Sum.{Sum as Sums};
 ghost use Rattle.sums.specs.Sums.{PoolHolds};
 ghost use Rattle.lines.specs.Parts.{keyed, NumberPart};
 ghost use Rattle.steps.specs.Items.{ItemIs};
-ghost use Rattle.lines.specs.Lines.{closedOf, KindIs};
+ghost use Rattle.lines.specs.Lines.{closedOf, shortItem, KindIs};
 use super::pairs::read_pairs;
 use super::part::NumberRead;
 use super::part::lesser;
@@ -196,7 +196,7 @@ fn read_ended<'a>(
     scratch: &mut [u64],
 ) -> ItemRead
     requires { ⌜ PoolHolds (now starts) (now counts) n (now pool) × (0 < n → (1 ≤ k) × (k ≤ 64)) × (leastScratch ≤ length (now scratch)) ⌝ }
-    ensures { λ r. ⌜ ItemIs k (storeOfColumns (now (indices .entry)) (now (starts .entry)) (now (counts .entry)) (now (pool .entry)) n) (record { long = false; reads = statement (record { content = now (s .entry); ended = true }) }) (now (scratch .entry)) (now (scratch .exit)) r ⌝ }
+    ensures { λ r. ⌜ ItemIs k (storeOfColumns (now (indices .entry)) (now (starts .entry)) (now (counts .entry)) (now (pool .entry)) n) (shortItem (statement (record { content = now (s .entry); ended = true }))) (now (scratch .entry)) (now (scratch .exit)) r ⌝ }
 {
     if s.len() == 0 {
         return without_sum(Said::Refused(limits::FORM));

@@ -29,12 +29,13 @@ no-terms : storedTerms [] ≡ 0
 unfolding storedTerms total
 no-terms = refl
 
-module _ (k : ℕ) where
+-- the state's ring has k bits, the statements' j: none where the ring stands beside them
+module _ (k j : ℕ) where
   -- what the state carries after the statements h, the newest first
   record Carried (s : State) (h : List Statement) : Type 0 where
     ringed : s .ring ≡ modulo k
     begun : 0 < s .phase
-    ring-in : ringIn h ≡ k
+    ring-in : ringIn h ≡ j
     distinct : Distinct (s .store)
     finds : (i : ℕ) → find (s .store) i ≡ named k h i
     products : s .products ≡ productsIn k h
@@ -135,17 +136,28 @@ pub record StateCounts (k : ℕ) (s : State) (h : List Statement) : Type 0 where
   pub polynomials : length (s .store) + deletedPolynomials h ≡ introducedPolynomials k h
   pub terms : storedTerms (s .store) + deletedTerms k h ≡ introducedTerms k h
 
-of-carried : (k : ℕ) (s : State) (h : List Statement) → Carried k s h → StateCounts (ringIn h) s h
-of-carried k s h c = subst (λ (j : ℕ). StateCounts j s h) (sym (c .ring-in)) (record { products = c .products; polynomials = c .polynomials; terms = c .terms })
+of-carried : (k j : ℕ) (s : State) (h : List Statement) → Carried k j s h → StateCounts k s h
+of-carried k j s h c = record { products = c .products; polynomials = c .polynomials; terms = c .terms }
 
 counted-start : StateCounts (ringIn []) start []
 unfolding start productsIn deletedPolynomials introducedPolynomials deletedTerms introducedTerms sumOver storedTerms total
 counted-start = record { products = refl; polynomials = refl; terms = refl }
 
-carried-ring : (k : ℕ) → Carried k (after start (ring (modulo k))) (ring (modulo k) ∷ [])
+carried-ring : (k : ℕ) → Carried k k (after start (ring (modulo k))) (ring (modulo k) ∷ [])
 unfolding start after without forgets entries productCount ringIn find named stored any productsIn deletedPolynomials introducedPolynomials deletedTerms introducedTerms sumOver storedTerms total
 carried-ring k = record { ringed = refl; begun = omega arith; ring-in = refl; distinct = tt; finds = λ i. refl; products = refl; polynomials = refl; terms = refl }
 
 pub counted-steps : (capacity : ℕ) {e : State} {sts : List Statement} → Opened capacity sts e → StateCounts (ringIn (reverseAux sts [])) e (reverseAux sts [])
 counted-steps capacity nothing = counted-start
-counted-steps capacity (opening {sts} {e} k r) = of-carried k e (reverseAux sts (ring (modulo k) ∷ [])) (carried k capacity r (ring (modulo k) ∷ []) (carried-ring k))
+counted-steps capacity (opening {sts} {e} k r) =
+    let h : List Statement = reverseAux sts (ring (modulo k) ∷ []) in
+    let c = carried k k capacity r (ring (modulo k) ∷ []) (carried-ring k) in
+    subst (λ (j : ℕ). StateCounts j e h) (sym (c .ring-in)) (of-carried k k e h c)
+
+-- ---- from a ring that stands beside the statements
+carried-none : (k : ℕ) → Carried k 0 (after start (ring (modulo k))) []
+unfolding start after without forgets entries productCount ringIn find named productsIn deletedPolynomials introducedPolynomials deletedTerms introducedTerms sumOver storedTerms total
+carried-none k = record { ringed = refl; begun = omega arith; ring-in = refl; distinct = tt; finds = λ i. refl; products = refl; polynomials = refl; terms = refl }
+
+pub counted-behind : (capacity k : ℕ) {e : State} {sts : List Statement} → Steps capacity (after start (ring (modulo k))) sts e → StateCounts k e (reverseAux sts [])
+counted-behind capacity k {e} {sts} r = of-carried k 0 e (reverseAux sts []) (carried k 0 capacity r [] (carried-none k))

@@ -1,6 +1,7 @@
 -- A run is a row of statements that stand, and a last word. Assumes nothing.
 use mathlib.Core.Path.{_≡_, refl, sym, ap, _∙_, subst}
-use mathlib.Core.Bool.{true}
+use mathlib.Core.Bool.{true, cond}
+use mathlib.Core.Logic.{⊎-elim}
 use mathlib.Core.List.{List, [], _∷_, _++_, reverseAux}
 use Prim.Native.Nat.{ℕ, suc, _<_}
 use native.Mathlib.Omega.{arith}
@@ -8,7 +9,7 @@ use lib.Dec.{eqb}
 use lib.ListN.{length}
 use borrow.Author.Tests.{eqb-true, eqb-false}
 use Rattle.ground.specs.Lists.{gather}
-use Rattle.ground.proofs.Tests.{by-cond}
+use Rattle.ground.proofs.Tests.{split, by-cond, cond-yes, cond-no}
 use Rattle.limits.specs.Verdicts.{ACCEPTED, LONGLINE, FORM, NOGOAL, NOTREACHED}
 use Rattle.paper.specs.Rules.{first, steps, storedTerms, State, start, place, rules, after}
 use Rattle.paper.specs.Grammar.{Read, got, stuck}
@@ -41,17 +42,21 @@ module _ (capacity : ℕ) where
   Heard s (stuck r) (stands s′) = ⊥
   Heard s r (refused v i) = 0 < v
 
-  judged-read : (s : State) (r : Read Statement) → Heard s r (elim r [ got st t ↦ judge capacity s st | stuck t ↦ refused FORM 0 ])
+  -- the verdict on what is written is w, and that of the state comes behind it
+  stands-both : (s : State) (st : Statement) (w : ℕ) → cond (eqb w 0) (first (rules capacity s st)) w ≡ 0 → first (rules capacity s st) ≡ 0
+  stands-both s st w e = ⊎-elim (λ z. sym (cond-yes (eqb w 0) (first (rules capacity s st)) w z) ∙ e)
+      (λ n. absurd (eqb-false w 0 n (sym (cond-no (eqb w 0) (first (rules capacity s st)) w n) ∙ e))) (split (eqb w 0))
+
+  judged-read : (s : State) (w : ℕ) (r : Read Statement) → Heard s r (elim r [ got st t ↦ judge capacity s w st | stuck t ↦ refused FORM 0 ])
   unfolding judge
-  judged-read s (got st r) =
-      by-cond (Heard s (got st r)) (eqb (first (rules capacity s st)) 0)
-      (λ e. (eqb-true (first (rules capacity s st)) 0 e, refl))
-      (λ e. positive (first (rules capacity s st)) (eqb-false (first (rules capacity s st)) 0 e))
-  judged-read s (stuck r) = omega arith
+  judged-read s w (got st r) =
+      let v : ℕ = cond (eqb w 0) (first (rules capacity s st)) w in
+      by-cond (Heard s (got st r)) (eqb v 0) (λ e. (stands-both s st w (eqb-true v 0 e), refl)) (λ e. positive v (eqb-false v 0 e))
+  judged-read s w (stuck r) = omega arith
 
   judged : (s : State) (i : Item) → Heard s (i .reads) (judgeItem capacity s i)
   unfolding judgeItem
-  judged s i = by-cond (Heard s (i .reads)) (i .long) (λ e. long (i .reads)) (λ e. judged-read s (i .reads))
+  judged s i = by-cond (Heard s (i .reads)) (i .long) (λ e. long (i .reads)) (λ e. judged-read s (i .written) (i .reads))
     where
       long : (r : Read Statement) → Heard s r (refused LONGLINE 0)
       long (got st r) = omega arith

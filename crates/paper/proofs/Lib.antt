@@ -12,3 +12,12 @@ pub mod Pieces
 pub mod Ranges
 pub mod ReadBack
 pub mod SpelledMeaning
+pub mod Verdicts
+pub mod Names
+pub mod LinesBack
+pub mod PublishedReads
+pub mod Renamed
+pub mod PublishedSound
+pub mod PublishedText
+pub mod PublishedSamples
+pub mod PublishedReading

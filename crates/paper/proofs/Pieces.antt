@@ -12,7 +12,7 @@ use lib.Seq.{drop-cons}
 use borrow.Author.Tests.{leb-true, not-true, eqb-true, eqb-false, le-leb, lt-leb, eq-eqb, ne-eqb}
 use Rattle.ground.proofs.Tests.{and-left, and-right}
 use Rattle.paper.specs.Grammar.{Bytes, got, stuck, Reader, next, upTo, each, isDigit, digits, decimal, sign, term, asWritten, polynomial}
-use Rattle.paper.specs.Statement.{WrittenTerm, Written}
+use Rattle.paper.specs.Statement.{TermOf, WrittenTerm, Written}
 use Rattle.paper.proofs.Reading.{clash, parted, inField, takes-decimal, each-none}
 
 -- ---- digits
@@ -148,7 +148,7 @@ decimal-of-zero (b ∷ s) r e = go (eqb b (code "0")) (leb (code "0") b && leb b
     go false false d f e = absurd (clash e)
 
 -- the term of the field `0`
-abbrev pub isZero : WrittenTerm → Bool
+abbrev pub isZero : {A : Type 0} → TermOf A → Bool
 isZero t = not (t .negative) && eqb (t .magnitude) 0 && elim (t .variables) [ [] ↦ true | v ∷ vs ↦ false ]
 
 is-empty : (vs : List ℕ) → elim vs [ [] ↦ true | v ∷ vs ↦ false ] ≡ true → vs ≡ []

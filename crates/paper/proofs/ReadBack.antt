@@ -10,17 +10,20 @@ use native.Mathlib.Omega.{arith}
 use lib.Dec.{eqb, leb, ltb}
 use lib.ListN.{length, length-append}
 use borrow.Author.Tests.{ltb-true, ltb-false, le-leb, eq-eqb, ne-eqb}
-use Rattle.ground.specs.Lists.{gather}
-use Rattle.ground.proofs.Tests.{split, by-cond, and-left, and-right}
+use Rattle.ground.specs.Lists.{every, gather}
+use Rattle.ground.proofs.Tests.{split, by-cond, cond-no, and-left, and-right}
 use Rattle.limits.specs.Limits.{variables}
 use Rattle.algebra.specs.Polynomial.{members, Term, Poly, Reduced}
 use Rattle.paper.specs.Grammar.{Bytes, bytes, Read, got, Reader, next, end, upTo, each, isDigit, digits, decimal, sign, term, asWritten, polynomial}
-use Rattle.paper.specs.Statement.{WrittenTerm, Written}
+use Rattle.paper.specs.Statement.{TermOf, WrittenOf, WrittenTerm, Written}
 use Rattle.paper.specs.Spelling.{spellDigits, spellNumber, spellCoefficient, spellTerm, spell, wholeField}
+use Rattle.paper.specs.LineText.{writeTerm, writeField}
+use Rattle.paper.proofs.Reading.{every-true}
+use Rattle.paper.proofs.Pieces.{isZero}
 
 -- ---- numbers
 -- no digit comes next
-unfoldable noDigit : Bytes → Bool
+unfoldable pub noDigit : Bytes → Bool
 noDigit [] = true
 noDigit (b ∷ s) = not (isDigit b)
 
@@ -68,7 +71,7 @@ zero-back : (s : Bytes) → decimal (spellDigits 1 0 ++ s) ≡ got 0 s
 unfolding spellDigits decimal
 zero-back s = refl
 
-number-back : (n : ℕ) (s : Bytes) → noDigit s ≡ true → decimal (spellNumber n ++ s) ≡ got n s
+pub number-back : (n : ℕ) (s : Bytes) → noDigit s ≡ true → decimal (spellNumber n ++ s) ≡ got n s
 unfolding spellNumber
 number-back zero s h = zero-back s
 number-back (suc n) s h = decimal-digits (suc (suc n)) (suc n) s (omega arith) (omega arith) ∙ digits-stop (suc n) s h
@@ -87,13 +90,13 @@ unsigned (suc d) n s h =
 
 -- ---- as many items as follow
 -- the byte c does not come next
-unfoldable without : ℕ → Bytes → Bool
+unfoldable pub without : ℕ → Bytes → Bool
 without c [] = true
 without c (b ∷ s) = not (eqb b c)
 
--- items that are read back before what `ok` allows, each behind c, are read back in a row
-module _ {A : Type 0} (c : ℕ) (item : Reader A) (spelled : A → Bytes) (ok : Bytes → Bool)
-    (back : (x : A) (s : Bytes) → ok s ≡ true → item (spelled x ++ s) ≡ got x s) (tail : (s : Bytes) → ok (c ∷ s) ≡ true) where
+-- good items that are read back before what `ok` allows, each behind c, are read back in a row
+module _ {A : Type 0} (c : ℕ) (item : Reader A) (spelled : A → Bytes) (good : A → Bool) (ok : Bytes → Bool)
+    (back : (x : A) (s : Bytes) → good x ≡ true → ok s ≡ true → item (spelled x ++ s) ≡ got x s) (tail : (s : Bytes) → ok (c ∷ s) ≡ true) where
   upTo-none : (m : ℕ) (s : Bytes) → without c s ≡ true → upTo m c item s ≡ got [] s
   unfolding upTo without
   upTo-none zero s h = refl
@@ -113,31 +116,29 @@ module _ {A : Type 0} (c : ℕ) (item : Reader A) (spelled : A → Bytes) (ok : 
   unfolding upTo
   upTo-first m x xs s e f = rw (eq-eqb c c refl, e, f)
 
-  upTo-back : (m : ℕ) (xs : List A) (s : Bytes) → length xs ≤ m → ok s ≡ true → without c s ≡ true
+  upTo-back : (m : ℕ) (xs : List A) (s : Bytes) → length xs ≤ m → every good xs ≡ true → ok s ≡ true → without c s ≡ true
       → upTo m c item (gather (λ x. c ∷ spelled x) xs ++ s) ≡ got xs s
-  unfolding gather
-  upTo-back m [] s h o w = upTo-none m s w
-  upTo-back zero (x ∷ xs) s h o w = absurd (not-suc-le-zero h)
-  upTo-back (suc m) (x ∷ xs) s h o w =
+  unfolding gather every
+  upTo-back m [] s h g o w = upTo-none m s w
+  upTo-back zero (x ∷ xs) s h g o w = absurd (not-suc-le-zero h)
+  upTo-back (suc m) (x ∷ xs) s h g o w =
       upTo-first m x xs ((spelled x ++ gather (λ x. c ∷ spelled x) xs) ++ s)
-      (ap item (append-assoc (spelled x) (gather (λ x. c ∷ spelled x) xs) s) ∙ back x (gather (λ x. c ∷ spelled x) xs ++ s) (ahead xs s o)) (upTo-back m xs s (omega arith) o w)
+      (ap item (append-assoc (spelled x) (gather (λ x. c ∷ spelled x) xs) s)
+      ∙ back x (gather (λ x. c ∷ spelled x) xs ++ s) (and-left (good x) (every good xs) g) (ahead xs s o))
+      (upTo-back m xs s (omega arith) (and-right (good x) (every good xs) g) o w)
 
   gather-length : (xs : List A) → length xs ≤ length (gather (λ x. c ∷ spelled x) xs)
   unfolding gather
   gather-length [] = omega arith
   gather-length (x ∷ xs) = omega (arith, gather-length xs, length-append (spelled x) (gather (λ x. c ∷ spelled x) xs))
 
-  each-back : (xs : List A) (s : Bytes) → ok s ≡ true → without c s ≡ true → each c item (gather (λ x. c ∷ spelled x) xs ++ s) ≡ got xs s
-  each-back xs s o w =
-      upTo-back (length (gather (λ x. c ∷ spelled x) xs ++ s)) xs s (omega (arith, gather-length xs, length-append (gather (λ x. c ∷ spelled x) xs) s)) o w
+  pub each-back : (xs : List A) (s : Bytes) → every good xs ≡ true → ok s ≡ true → without c s ≡ true → each c item (gather (λ x. c ∷ spelled x) xs ++ s) ≡ got xs s
+  each-back xs s g o w =
+      upTo-back (length (gather (λ x. c ∷ spelled x) xs ++ s)) xs s (omega (arith, gather-length xs, length-append (gather (λ x. c ∷ spelled x) xs) s)) g o w
 
 -- ---- terms
-unfoldable spelledTerm : WrittenTerm → Bytes
-spelledTerm t =
-    cond (t .negative) (code "-" ∷ spellNumber (t .magnitude)) (spellNumber (t .magnitude)) ++ gather (λ v. code "." ∷ spellNumber v) (t .variables)
-
 -- neither a digit nor a dot comes next
-unfoldable apart : Bytes → Bool
+unfoldable pub apart : Bytes → Bool
 apart s = noDigit s && without (code ".") s
 
 dots : List ℕ → Bytes
@@ -148,20 +149,23 @@ unfolding dots gather noDigit isDigit
 dots-apart [] s h = h
 dots-apart (v ∷ vs) s h = refl
 
-sign-back : (b : Bool) (m : ℕ) (s : Bytes) → sign (cond b (code "-" ∷ spellNumber m) (spellNumber m) ++ s) ≡ got b (spellNumber m ++ s)
+sign-back : (b : Bool) (m : ℕ) (s : Bytes) → sign (cond b (code "-" ∷ []) [] ++ (spellNumber m ++ s)) ≡ got b (spellNumber m ++ s)
 unfolding sign spellNumber
 sign-back true m s = refl
 sign-back false m s = unsigned (suc m) m s (omega arith)
 
-term-back : (t : WrittenTerm) (s : Bytes) → apart s ≡ true → term (spelledTerm t ++ s) ≡ got t s
-unfolding term spelledTerm apart dots noDigit isDigit
+term-back : (t : WrittenTerm) (s : Bytes) → apart s ≡ true → term (writeTerm t ++ s) ≡ got t s
+unfolding term writeTerm apart dots noDigit isDigit
 term-back t s h =
     let n : noDigit s ≡ true = and-left (noDigit s) (without (code ".") s) h in
-    ap term (append-assoc (cond (t .negative) (code "-" ∷ spellNumber (t .magnitude)) (spellNumber (t .magnitude))) (dots (t .variables)) s)
+    let minus : Bytes = cond (t .negative) (code "-" ∷ []) [] in
+    ap term (append-assoc minus (spellNumber (t .magnitude) ++ dots (t .variables)) s
+    ∙ ap (λ (r : Bytes). minus ++ r) (append-assoc (spellNumber (t .magnitude)) (dots (t .variables)) s))
     ∙ ap (λ (r : Read Bool). next r signed) (sign-back (t .negative) (t .magnitude) (dots (t .variables) ++ s))
     ∙ ap (λ (r : Read ℕ). next r (sized (t .negative))) (number-back (t .magnitude) (dots (t .variables) ++ s) (dots-apart (t .variables) s n))
     ∙ ap (λ (r : Read (List ℕ)). next r (named (t .negative) (t .magnitude)))
-    (each-back (code ".") decimal spellNumber noDigit number-back (λ r. refl) (t .variables) s n (and-right (noDigit s) (without (code ".") s) h))
+    (each-back (code ".") decimal spellNumber (λ v. true) noDigit (λ v s g. number-back v s) (λ r. refl) (t .variables) s (every-true (t .variables)) n
+    (and-right (noDigit s) (without (code ".") s) h))
   where
     named : Bool → ℕ → List ℕ → Reader WrittenTerm
     named b m vs = λ r. got (record { negative = b; magnitude = m; variables = vs }) r
@@ -173,34 +177,56 @@ term-back t s h =
     signed b = λ r. next (decimal r) (sized b)
 
 -- ---- polynomials
-spaces-apart : (ts : List WrittenTerm) → apart (gather (λ u. code " " ∷ spelledTerm u) ts) ≡ true
-unfolding gather apart noDigit without isDigit
-spaces-apart [] = refl
-spaces-apart (t ∷ ts) = refl
+-- neither a digit nor a dot nor a space comes next
+unfoldable pub fieldEnds : Bytes → Bool
+fieldEnds s = apart s && without (code " ") s
 
-terms-back : (t : WrittenTerm) (ts : List WrittenTerm) → polynomial (spelledTerm t ++ gather (λ u. code " " ∷ spelledTerm u) ts) ≡ got (asWritten t ts) []
-unfolding polynomial apart noDigit without isDigit
-terms-back t ts =
-    ap (λ (r : Read WrittenTerm). next r more) (term-back t (gather (λ u. code " " ∷ spelledTerm u) ts) (spaces-apart ts))
+spaces-apart : (ts : List WrittenTerm) (s : Bytes) → apart s ≡ true → apart (gather (λ u. code " " ∷ writeTerm u) ts ++ s) ≡ true
+unfolding gather apart noDigit without isDigit
+spaces-apart [] s h = h
+spaces-apart (t ∷ ts) s h = refl
+
+terms-back : (t : WrittenTerm) (ts : List WrittenTerm) (s : Bytes) → fieldEnds s ≡ true → polynomial (writeField (t ∷ ts) ++ s) ≡ got (asWritten t ts) s
+unfolding polynomial writeField fieldEnds apart noDigit without isDigit
+terms-back t ts s h =
+    let a : apart s ≡ true = and-left (apart s) (without (code " ") s) h in
+    let others : Bytes = gather (λ u. code " " ∷ writeTerm u) ts in
+    ap polynomial (append-assoc (writeTerm t) others s)
+    ∙ ap (λ (r : Read WrittenTerm). next r more) (term-back t (others ++ s) (spaces-apart ts s a))
     ∙ ap (λ (r : Read (List WrittenTerm)). next r (λ us s. got (asWritten t us) s))
-    (ap (each (code " ") term) (sym (append-nil (gather (λ u. code " " ∷ spelledTerm u) ts)))
-    ∙ each-back (code " ") term spelledTerm apart term-back (λ r. refl) ts [] refl refl)
+    (each-back (code " ") term writeTerm (λ u. true) apart (λ u s g. term-back u s) (λ r. refl) ts s (every-true ts) a (and-right (apart s) (without (code " ") s) h))
   where
     more : WrittenTerm → Reader Written
     more u = λ s. next (each (code " ") term s) (λ us s. got (asWritten u us) s)
+
+-- one bare term of magnitude 0: as a field it reads as the zero polynomial
+unfoldable pub bareZero : {A : Type 0} → WrittenOf A → Bool
+bareZero [] = false
+bareZero (t ∷ []) = isZero t
+bareZero (t ∷ u ∷ ts) = false
+
+pub as-it-is : {A : Type 0} (t : TermOf A) (ts : List (TermOf A)) → bareZero (t ∷ ts) ≡ false → asWritten t ts ≡ t ∷ ts
+unfolding asWritten bareZero
+as-it-is t [] e = cond-no (isZero t) [] (t ∷ []) e
+as-it-is t (u ∷ ts) e = refl
+
+pub field-back : (p : Written) (s : Bytes) → bareZero p ≡ false → fieldEnds s ≡ true → polynomial (writeField p ++ s) ≡ got p s
+unfolding writeField writeTerm bytes spellNumber spellDigits asWritten gather
+field-back [] s e h = terms-back (record { negative = false; magnitude = 0; variables = [] }) [] s h
+field-back (t ∷ ts) s e h = terms-back t ts s h ∙ ap (λ (p : Written). got p s) (as-it-is t ts e)
 
 pub whole-end : (s : Bytes) (p : Written) → polynomial s ≡ got p [] → wholeField s ≡ got p []
 unfolding wholeField end
 whole-end s p e = ap (λ (r : Read Written). next r (λ p s. next (end s) (λ _ r. got p r))) e
 
-some-terms : (t : WrittenTerm) (ts : List WrittenTerm) → 0 < t .magnitude → asWritten t ts ≡ t ∷ ts
-unfolding asWritten
-some-terms t [] h = rw (ne-eqb (t .magnitude) 0 (λ e. omega arith)) (go (not (t .negative)))
+some-magnitude : (t : WrittenTerm) (ts : List WrittenTerm) → 0 < t .magnitude → bareZero (t ∷ ts) ≡ false
+unfolding bareZero
+some-magnitude t [] h = rw (ne-eqb (t .magnitude) 0 (λ e. omega arith)) (go (not (t .negative)))
   where
-    go : (b : Bool) → cond ((b && false) && elim (t .variables) [ [] ↦ true | v ∷ vs ↦ false ]) [] (t ∷ []) ≡ t ∷ []
+    go : (b : Bool) → ((b && false) && elim (t .variables) [ [] ↦ true | v ∷ vs ↦ false ]) ≡ false
     go true = refl
     go false = refl
-some-terms t (u ∷ ts) h = refl
+some-magnitude t (u ∷ ts) h = refl
 
 -- ---- the spelling of a polynomial
 module _ (k : ℕ) where
@@ -212,37 +238,39 @@ module _ (k : ℕ) where
     variables = members variables 0 (t .set);
   }
 
-  term-spelled : (t : Term) → spellTerm k t ≡ spelledTerm (writtenTerm t)
-  unfolding spellTerm spellCoefficient spelledTerm writtenTerm
+  term-spelled : (t : Term) → spellTerm k t ≡ writeTerm (writtenTerm t)
+  unfolding spellTerm spellCoefficient writeTerm writtenTerm
   term-spelled t = go (leb (t .coef) (2 ^ (k - 1)))
     where
       vs : Bytes
       vs = gather (λ v. code "." ∷ spellNumber v) (members variables 0 (t .set))
 
       go : (b : Bool) → cond b (spellNumber (t .coef)) (code "-" ∷ spellNumber (2 ^ k - t .coef)) ++ vs
-          ≡ cond (not b) (code "-" ∷ spellNumber (cond b (t .coef) (2 ^ k - t .coef))) (spellNumber (cond b (t .coef) (2 ^ k - t .coef))) ++ vs
+          ≡ cond (not b) (code "-" ∷ []) [] ++ (spellNumber (cond b (t .coef) (2 ^ k - t .coef)) ++ vs)
       go true = refl
       go false = refl
 
-  rest-spelled : (p : Poly) → gather (λ u. code " " ∷ spellTerm k u) p ≡ gather (λ u. code " " ∷ spelledTerm u) (map writtenTerm p)
+  rest-spelled : (p : Poly) → gather (λ u. code " " ∷ spellTerm k u) p ≡ gather (λ u. code " " ∷ writeTerm u) (map writtenTerm p)
   unfolding gather
   rest-spelled [] = refl
   rest-spelled (t ∷ p) = ap₂ (λ (x y : Bytes). (code " " ∷ x) ++ y) (term-spelled t) (rest-spelled p)
+
+  field-spelled : (p : Poly) → spell k p ≡ writeField (map writtenTerm p)
+  unfolding spell writeField
+  field-spelled [] = refl
+  field-spelled (t ∷ p) = ap₂ (λ (x y : Bytes). x ++ y) (term-spelled t) (rest-spelled p)
 
   magnitude-some : (t : Term) → 0 < t .coef → t .coef < 2 ^ k → 0 < writtenTerm t .magnitude
   unfolding writtenTerm
   magnitude-some t h l = by-cond (λ (x : ℕ). 0 < x) (leb (t .coef) (2 ^ (k - 1))) (λ _. h) (λ _. omega arith)
 
-  zero-spelled : polynomial (spell k []) ≡ got [] []
-  unfolding spell bytes polynomial term sign decimal upTo asWritten
-  zero-spelled = refl
-
-  some-spelled : (t : Term) (p : Poly) → polynomial (spell k (t ∷ p)) ≡ got (asWritten (writtenTerm t) (map writtenTerm p)) []
-  unfolding spell
-  some-spelled t p = ap polynomial (ap₂ (λ (x y : Bytes). x ++ y) (term-spelled t) (rest-spelled p)) ∙ terms-back (writtenTerm t) (map writtenTerm p)
+  spelled-some : (b : ℕ) (p : Poly) → Reduced k b p → bareZero (map writtenTerm p) ≡ false
+  unfolding bareZero
+  spelled-some b [] r = refl
+  spelled-some b (t ∷ p) r = some-magnitude (writtenTerm t) (map writtenTerm p) (magnitude-some t (r .1) (r .2))
 
   pub spell-back : (b : ℕ) (p : Poly) → Reduced k b p → wholeField (spell k p) ≡ got (map writtenTerm p) []
-  spell-back b [] r = whole-end (spell k []) [] zero-spelled
-  spell-back b (t ∷ p) r =
-      whole-end (spell k (t ∷ p)) (map writtenTerm (t ∷ p))
-      (some-spelled t p ∙ ap (λ (w : Written). got w []) (some-terms (writtenTerm t) (map writtenTerm p) (magnitude-some t (r .1) (r .2))))
+  unfolding fieldEnds apart noDigit without
+  spell-back b p r =
+      whole-end (spell k p) (map writtenTerm p)
+      (ap polynomial (field-spelled p ∙ sym (append-nil (writeField (map writtenTerm p)))) ∙ field-back (map writtenTerm p) [] (spelled-some b p r) refl)

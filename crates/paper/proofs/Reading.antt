@@ -26,6 +26,9 @@ module _ {A B : Type 0} where
   next-assoc (got x s) f g = refl
   next-assoc (stuck s) f g = refl
 
+  pub next-got : {r : Read A} (f : A → Reader B) {x : A} {s : Bytes} {y : B} {t : Bytes} → r ≡ got x s → f x s ≡ got y t → next r f ≡ got y t
+  next-got f e d = ap (λ (q : Read A). next q f) e ∙ d
+
   -- what two readers in a row read, taken apart
   pub record Parted (r : Read A) (f : A → Reader B) (y : B) (t : Bytes) : Type 0 where
     pub value : A
@@ -50,11 +53,11 @@ abbrev pub Takes : {A : Type 0} → (ℕ → Bool) → ℕ → Reader A → Type
 Takes {A} allowed n read = (s : Bytes) (x : A) (r : Bytes) → read s ≡ got x r → After allowed n s r
 
 module _ {allowed : ℕ → Bool} where
-  after-none : (s : Bytes) → After allowed 0 s s
+  pub after-none : (s : Bytes) → After allowed 0 s s
   unfolding every
   after-none s = record { taken = 0; least = omega arith; inside = omega arith; rest = refl; clear = refl }
 
-  after-more : {n : ℕ} {b : ℕ} {s r : Bytes} → allowed b ≡ true → After allowed n s r → After allowed (suc n) (b ∷ s) r
+  pub after-more : {n : ℕ} {b : ℕ} {s r : Bytes} → allowed b ≡ true → After allowed n s r → After allowed (suc n) (b ∷ s) r
   unfolding every
   after-more {n} {b} {s} ok a =
       let l = a .least in
@@ -85,7 +88,7 @@ module _ {allowed : ℕ → Bool} where
             (and-both (every allowed (take (a .taken) s)) (every allowed (take (b .taken) (drop (a .taken) s))) (a .clear) c);
       }
 
-  after-least : {m n : ℕ} {s r : Bytes} → m ≤ n → After allowed n s r → After allowed m s r
+  pub after-least : {m n : ℕ} {s r : Bytes} → m ≤ n → After allowed n s r → After allowed m s r
   after-least h a =
       let l = a .least in
       record { taken = a .taken; least = omega arith; inside = a .inside; rest = a .rest; clear = a .clear }
@@ -97,12 +100,12 @@ module _ {allowed : ℕ → Bool} where
       omega (arith, ap length (a .rest), length-drop (a .taken) s)
 
   module _ {A B : Type 0} where
-    takes-then : {m n : ℕ} (read : Reader A) (f : A → Reader B) → Takes allowed m read → ((x : A) → Takes allowed n (f x)) → Takes allowed (m + n) (λ s. next (read s) f)
+    pub takes-then : {m n : ℕ} (read : Reader A) (f : A → Reader B) → Takes allowed m read → ((x : A) → Takes allowed n (f x)) → Takes allowed (m + n) (λ s. next (read s) f)
     takes-then read f a b s y t e =
         let p = parted (read s) f e in
         after-then (a s (p .value) (p .rest) (p .first)) (b (p .value) (p .rest) y t (p .second))
 
-  takes-give : {A : Type 0} (x : A) → Takes allowed 0 (give x)
+  pub takes-give : {A : Type 0} (x : A) → Takes allowed 0 (give x)
   takes-give x s y r e = let q : s ≡ r = cc in rw q (after-none r)
 
   takes-upTo : {A : Type 0} {n : ℕ} (m c : ℕ) (item : Reader A) → allowed c ≡ true → Takes allowed n item → Takes allowed 0 (upTo m c item)
@@ -125,18 +128,18 @@ module _ {allowed : ℕ → Bool} where
       go false d e ih = let q : (b ∷ s) ≡ r = cc in rw (← q) (after-none (b ∷ s))
 
 -- any byte
-abbrev byte : ℕ → Bool
+abbrev pub byte : ℕ → Bool
 byte b = true
 
-every-byte : (s : Bytes) → every byte s ≡ true
+pub every-true : {A : Type 0} (xs : List A) → every (λ x. true) xs ≡ true
 unfolding every
-every-byte [] = refl
-every-byte (b ∷ s) = every-byte s
+every-true [] = refl
+every-true (x ∷ xs) = every-true xs
 
-takes-bytes : {A : Type 0} {allowed : ℕ → Bool} {n : ℕ} (read : Reader A) → Takes allowed n read → Takes byte n read
+pub takes-bytes : {A : Type 0} {allowed : ℕ → Bool} {n : ℕ} (read : Reader A) → Takes allowed n read → Takes byte n read
 takes-bytes read a s x r e =
     let t = a s x r e in
-    record { taken = t .taken; least = t .least; inside = t .inside; rest = t .rest; clear = every-byte (take (t .taken) s) }
+    record { taken = t .taken; least = t .least; inside = t .inside; rest = t .rest; clear = every-true (take (t .taken) s) }
 
 -- any but a tab
 unfoldable pub inField : ℕ → Bool
@@ -148,7 +151,7 @@ digit-in-field b e =
     let l = leb-true 48 b (and-left (leb 48 b) (leb b 57) e) in
     rw (ne-eqb b 9 (λ q. omega arith))
 
-takes-digits : (n : ℕ) → Takes inField 0 (digits n)
+pub takes-digits : (n : ℕ) → Takes inField 0 (digits n)
 unfolding digits
 takes-digits n [] x r e = let q : [] ≡ r = cc in rw (← q) (after-none [])
 takes-digits n (b ∷ s) x r e = go (isDigit b) refl e (takes-digits (n * 10 + (b - code "0")) s)
@@ -177,7 +180,7 @@ takes-sign (b ∷ s) x r e = go (eqb b (code "-")) refl e
     go true d e = let q : s ≡ r = cc in rw (← q) (after-least (omega arith) (after-more (rw (eqb-true b (code "-") d)) (after-none s)))
     go false d e = let q : (b ∷ s) ≡ r = cc in rw (← q) (after-none (b ∷ s))
 
-takes-each : {A : Type 0} {allowed : ℕ → Bool} {n : ℕ} (c : ℕ) (item : Reader A) → allowed c ≡ true → Takes allowed n item → Takes allowed 0 (each c item)
+pub takes-each : {A : Type 0} {allowed : ℕ → Bool} {n : ℕ} (c : ℕ) (item : Reader A) → allowed c ≡ true → Takes allowed n item → Takes allowed 0 (each c item)
 takes-each c item ok a s = takes-upTo (length s) c item ok a s
 
 pub takes-term : Takes inField 1 term
@@ -204,7 +207,7 @@ literal-inside (c ∷ w) (b ∷ s) x r e = go (eqb b c) refl e (literal-inside w
 takes-literal : (w : Bytes) → Takes byte (length w) (literal w)
 takes-literal w s x r e =
     let h = literal-inside w s x r e in
-    record { taken = length w; least = omega arith; inside = h .0; rest = h .1; clear = every-byte (take (length w) s) }
+    record { taken = length w; least = omega arith; inside = h .0; rest = h .1; clear = every-true (take (length w) s) }
 
 takes-tab : Takes byte 1 tab
 unfolding tab bytes

@@ -8,7 +8,7 @@ use Rattle.ground.specs.Lists.{any, total, gather}
 use Rattle.algebra.specs.Polynomial.{Poly}
 use Rattle.paper.specs.Statement.{bits, Statement, ring, input, goal, lin, del, ext, onRing, onInput, onGoal, onExt, forgets, reduced}
 use Rattle.paper.specs.Grammar.{Bytes, Line, lines, Read, got, stuck, statement}
-use Rattle.paper.specs.Rules.{first, steps, storedTerms, State, start, stored, find, rules, after, entries, productCount}
+use Rattle.paper.specs.Rules.{first, steps, storedTerms, State, start, stored, find, writtenRules, rules, after, entries, productCount}
 
 pub record Answer : Type 0 where
   pub verdict : ℕ
@@ -26,25 +26,30 @@ pub data Outcome : Type 0 where
 unfoldable pub indexOf : Statement → ℕ
 indexOf st = elim st [ ring r ↦ 0 | input i p ↦ i | goal p ↦ 0 | lin i p qs ↦ i | del i ↦ i | ext i v p ↦ i ]
 
--- the index counts from TERMS on
-unfoldable pub judge : ℕ → State → Statement → Outcome
-judge capacity s st =
-    let v : ℕ = first (rules capacity s st) in
+-- behind the verdict on what is written; the index counts from TERMS on
+unfoldable pub judge : ℕ → State → ℕ → Statement → Outcome
+judge capacity s written st =
+    let v : ℕ = cond (eqb written ACCEPTED) (first (rules capacity s st)) written in
     cond (eqb v ACCEPTED) (stands (after s st)) (refused v (cond (leb TERMS v) (indexOf st) 0))
 
--- ---- an item of a text, whatever its syntax: whether it is too long, and how it reads
+-- ---- an item of a text, whatever its syntax: whether it is too long, how it reads, and the verdict on what is written
 pub record Item : Type 0 where
   pub long : Bool
   pub reads : Read Statement
+  pub written : ℕ
 
 unfoldable pub judgeItem : ℕ → State → Item → Outcome
 judgeItem capacity s i =
-    let read : Outcome = elim (i .reads) [ got st r ↦ judge capacity s st | stuck r ↦ refused FORM 0 ] in
+    let read : Outcome = elim (i .reads) [ got st r ↦ judge capacity s (i .written) st | stuck r ↦ refused FORM 0 ] in
     cond (i .long) (refused LONGLINE 0) read
 
 -- a line as an item
+abbrev pub writtenIn : Read Statement → ℕ
+writtenIn (got st r) = first (writtenRules st)
+writtenIn (stuck r) = ACCEPTED
+
 unfoldable pub itemOf : Line → Item
-itemOf l = record { long = ltb lineBytes (length (l .content)); reads = statement l }
+itemOf l = record { long = ltb lineBytes (length (l .content)); reads = statement l; written = writtenIn (statement l) }
 
 unfoldable pub items : Bytes → List Item
 items text = map itemOf (lines text)

@@ -2,7 +2,7 @@
 use mathlib.Core.{Bool.Bool, Bool.true, Bool.false, Bool.cond, Bool._&&_, Bool.not, List.List, List.[], List._∷_}
 use Prim.Native.{Nat.ℕ, Nat.zero, Nat.suc, Nat._+_, Nat._-_, Nat._*_, String.String, String.[] as nil, String._∷_ as cons, Char.code}
 use lib.{Dec.eqb, Dec.leb, ListN.length}
-use Rattle.paper.specs.Statement.{WrittenTerm, Written, Pair, modulo, Statement, ring, input, goal, lin, del, ext}
+use Rattle.paper.specs.Statement.{TermOf, WrittenOf, WrittenTerm, Written, Pair, modulo, Statement, ring, input, goal, lin, del, ext}
 
 -- ---- a text is a list of bytes; each of its lines ends with byte 10
 abbrev pub Bytes : Type 0
@@ -22,9 +22,13 @@ unfoldable pub onFirst : ℕ → List Line → List Line
 onFirst b [] = record { content = b ∷ []; ended = false } ∷ []
 onFirst b (l ∷ ls) = record { content = b ∷ l .content; ended = l .ended } ∷ ls
 
+-- what is ended by the byte c
+unfoldable pub endedBy : ℕ → Bytes → List Line
+endedBy c [] = []
+endedBy c (b ∷ s) = let rest : List Line = endedBy c s in cond (eqb b c) (record { content = []; ended = true } ∷ rest) (onFirst b rest)
+
 unfoldable pub lines : Bytes → List Line
-lines [] = []
-lines (b ∷ s) = cond (eqb b (code "\n")) (record { content = []; ended = true } ∷ lines s) (onFirst b (lines s))
+lines s = endedBy (code "\n") s
 
 -- ---- readers: what was read and the bytes left, or the bytes from the first that no well-formed line with this beginning has
 pub data Read (A : Type 0) : Type 0 where
@@ -98,7 +102,7 @@ abbrev pub moreTerms : Reader (List WrittenTerm)
 moreTerms = each (code " ") term
 
 -- the field `0` is the zero polynomial
-unfoldable pub asWritten : WrittenTerm → List WrittenTerm → Written
+unfoldable pub asWritten : {A : Type 0} → TermOf A → List (TermOf A) → WrittenOf A
 asWritten t [] = cond (not (t .negative) && eqb (t .magnitude) 0 && elim (t .variables) [ [] ↦ true | v ∷ vs ↦ false ]) [] (t ∷ [])
 asWritten t (u ∷ ts) = t ∷ u ∷ ts
 
@@ -165,6 +169,9 @@ unfoldable pub oneOf : List LineKind → Reader Statement
 oneOf [] s = stuck s
 oneOf (k ∷ ks) s = let read : Read Statement = wholeLine k s in cond (beginsAlike (k .0) s) read (oneOf ks s)
 
--- a line without byte 10 stops short
+-- what lacks its end stops short
+abbrev pub ifEnded : {A : Type 0} → Bool → Read A → Read A
+ifEnded ended read = cond ended read (next read (λ x r. stuck r))
+
 unfoldable pub statement : Line → Read Statement
-statement l = let read : Read Statement = oneOf kinds (l .content) in cond (l .ended) read (next read (λ st r. stuck r))
+statement l = ifEnded (l .ended) (oneOf kinds (l .content))

@@ -110,12 +110,15 @@ unfoldable pub first : List (ℕ × Bool) → ℕ
 first [] = ACCEPTED
 first (r ∷ rs) = let rest : ℕ = first rs in cond (r .1) (r .0) rest
 
+-- those that what is written decides alone
+unfoldable pub writtenRules : Statement → List (ℕ × Bool)
+writtenRules st = (NUMBER, not (numbersInRange st)) ∷ (TERMS, any tooManyTerms (fields st)) ∷ []
+
+-- and behind them those that the state decides
 unfoldable pub rules : ℕ → State → Statement → List (ℕ × Bool)
 rules capacity s st =
     let k : ℕ = bits (s .ring) in
-    (NUMBER, not (numbersInRange st))
-    ∷ (TERMS, any tooManyTerms (fields st))
-    ∷ (ORDER, not (eqb (place st) (s .phase)))
+    (ORDER, not (eqb (place st) (s .phase)))
     ∷ (TAKEN, any (stored (s .store)) (newIndex st))
     ∷ (MISSING, not (every (stored (s .store)) (namedIndices st)))
     ∷ (SEEN, onExt false (λ i v p. has (bitOr (shows k p) (s .seen)) v) st)

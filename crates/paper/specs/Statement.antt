@@ -6,18 +6,19 @@ use Rattle.limits.specs.Limits.{variables, greatestRing, greatestIndex, greates
 use Rattle.ground.specs.Lists.{every}
 use Rattle.algebra.specs.Polynomial.{Term, Poly, reduce}
 
-pub record WrittenTerm : Type 0 where
+-- ---- over the kind of its variables: numbers, or names
+pub record TermOf (A : Type 0) : Type 0 where
   pub negative : Bool
   pub magnitude : ℕ
-  pub variables : List ℕ
+  pub variables : List A
 
 -- the zero polynomial has no terms
-abbrev pub Written : Type 0
-Written = List WrittenTerm
+abbrev pub WrittenOf : Type 0 → Type 0
+WrittenOf A = List (TermOf A)
 
-pub record Pair : Type 0 where
+pub record PairOf (A : Type 0) : Type 0 where
   pub index : ℕ
-  pub factor : Written
+  pub factor : WrittenOf A
 
 -- the integers modulo 2 ^ k
 pub data Ring : Type 0 where
@@ -26,13 +27,40 @@ pub data Ring : Type 0 where
 abbrev pub bits : Ring → ℕ
 bits (modulo k) = k
 
-pub data Statement : Type 0 where
-  ring : Ring → Statement
-  input : ℕ → Written → Statement
-  goal : Written → Statement
-  lin : ℕ → Written → List Pair → Statement
-  del : ℕ → Statement
-  ext : ℕ → ℕ → Written → Statement
+pub data StatementOf (A : Type 0) : Type 0 where
+  ring : Ring → StatementOf A
+  input : ℕ → WrittenOf A → StatementOf A
+  goal : WrittenOf A → StatementOf A
+  lin : ℕ → WrittenOf A → List (PairOf A) → StatementOf A
+  del : ℕ → StatementOf A
+  ext : ℕ → A → WrittenOf A → StatementOf A
+
+-- with other variables
+module _ {A B : Type 0} (f : A → B) where
+  unfoldable pub renamedTerm : TermOf A → TermOf B
+  renamedTerm t = record { negative = t .negative; magnitude = t .magnitude; variables = map f (t .variables) }
+
+  unfoldable pub renamedField : WrittenOf A → WrittenOf B
+  renamedField p = map renamedTerm p
+
+  unfoldable pub renamedPair : PairOf A → PairOf B
+  renamedPair q = record { index = q .index; factor = renamedField (q .factor) }
+
+  unfoldable pub renamed : StatementOf A → StatementOf B
+  renamed st = elim st [ ring r ↦ ring r | input i p ↦ input i (renamedField p) | goal p ↦ goal (renamedField p) | lin i p qs ↦ lin i (renamedField p) (map renamedPair qs) | del i ↦ del i | ext i v p ↦ ext i (f v) (renamedField p) ]
+
+-- ---- over numbers
+abbrev pub WrittenTerm : Type 0
+WrittenTerm = TermOf ℕ
+
+abbrev pub Written : Type 0
+Written = WrittenOf ℕ
+
+abbrev pub Pair : Type 0
+Pair = PairOf ℕ
+
+abbrev pub Statement : Type 0
+Statement = StatementOf ℕ
 
 -- f says it of a statement of one kind, and it is x of every other
 module _ {A : Type 0} (x : A) where

@@ -46,13 +46,13 @@ same-end read s at {x} {y} {d} {e} g h =
     let q = h .reads in
     ((cc), same-place s d e (g .inside) (h .inside) (cc))
 
-same-stop : {A : Type 0} {read : Reader A} {s : Bytes} {at p q : ℕ} → Fails read s at p → Fails read s at q → p ≡ q
+pub same-stop : {A : Type 0} {read : Reader A} {s : Bytes} {at p q : ℕ} → Fails read s at p → Fails read s at q → p ≡ q
 same-stop {s = s} {p = p} {q = q} x y =
     let d = x .reads in
     let e = y .reads in
     same-place s p q (x .inside) (y .inside) (cc)
 
-not-both : {A : Type 0} {read : Reader A} {s : Bytes} {at e p : ℕ} {x : A} → Got read s at x e → Fails read s at p → ⊥
+pub not-both : {A : Type 0} {read : Reader A} {s : Bytes} {at e p : ℕ} {x : A} → Got read s at x e → Fails read s at p → ⊥
 not-both g f = clash (sym (f .reads) ∙ g .reads)
 
 -- ---- `decimal_at`: a value is a word

@@ -55,7 +55,7 @@ module _ (s : Bytes) (at b : ℕ) where
       let f = eqb (getD s at 0) b in
       (ltb-true at (length s) (and-left l f e), eqb-true (getD s at 0) b (and-right l f e))
 
-  stands-not : standsAt s at b ≡ false → ((at < length s) × (getD s at 0 ≡ b → ⊥)) ⊎ (length s ≤ at)
+  pub stands-not : standsAt s at b ≡ false → ((at < length s) × (getD s at 0 ≡ b → ⊥)) ⊎ (length s ≤ at)
   unfolding standsAt
   stands-not e =
       ⊎-elim
@@ -133,7 +133,7 @@ variable-mark : (v : ℕ) → mark (within 0 (variables - 1)) 1 v ≡ mark isVar
 unfolding mark
 variable-mark v = λ i. record { before = 1; width = length (spellNumber v); fine = variable-range v i }
 
-set-of-more : (vs : List ℕ) (v : ℕ) → setOf (vs ++ (v ∷ [])) ≡ bitOr (2 ^ v) (setOf vs)
+pub set-of-more : (vs : List ℕ) (v : ℕ) → setOf (vs ++ (v ∷ [])) ≡ bitOr (2 ^ v) (setOf vs)
 unfolding setOf
 set-of-more [] v = refl
 set-of-more (u ∷ vs) v =

@@ -48,53 +48,66 @@ next-same (got x s) f g h = h x s
 next-same (stuck s) f g h = refl
 
 -- some items stand from at up to i, P holds of them, and what is left to read is at i
-pub record ItemsUpTo {A : Type 0} (c : ℕ) (item : Reader A) (P : List A → Type 0) (s : Bytes) (at i : ℕ) : Type 0 where
+pub record ReadUpTo {A : Type 0} (more : Reader (List A)) (P : List A → Type 0) (s : Bytes) (at i : ℕ) : Type 0 where
   pub items : List A
-  pub reads : each c item (drop at s) ≡ next (each c item (drop i s)) (λ xs r. got (items ++ xs) r)
+  pub reads : more (drop at s) ≡ next (more (drop i s)) (λ xs r. got (items ++ xs) r)
   pub onward : at ≤ i
   pub inside : i ≤ length s
   pub holds : P items
 
-module _ {A : Type 0} (c : ℕ) (item : Reader A) (s : Bytes) (at : ℕ) where
-  pub passed-none : {P : List A → Type 0} → at ≤ length s → P [] → ItemsUpTo c item P s at at
-  passed-none h p = record { items = []; reads = next-give (each c item (drop at s)); onward = omega arith; inside = h; holds = p }
+module _ {A : Type 0} (more : Reader (List A)) (s : Bytes) (at : ℕ) where
+  pub read-none : {P : List A → Type 0} → at ≤ length s → P [] → ReadUpTo more P s at at
+  read-none h p = record { items = []; reads = next-give (more (drop at s)); onward = omega arith; inside = h; holds = p }
 
-  module _ {P : List A → Type 0} (i : ℕ) (p : ItemsUpTo c item P s at i) (h : i < length s) (b : getD s i 0 ≡ c) where
-    pub passed-more : {Q : List A → Type 0} {allowed : ℕ → Bool} {n : ℕ} {x : A} {e : ℕ} → Takes allowed n item → Got item s (i + 1) x e
-        → ((xs : List A) → P xs → Q (xs ++ (x ∷ []))) → ItemsUpTo c item Q s at e
-    passed-more {Q} {allowed} {n} {x} {e} t g f =
+  module _ {P : List A → Type 0} (i : ℕ) (p : ReadUpTo more P s at i) where
+    pub read-more : {Q : List A → Type 0} (x : A) (e : ℕ) → more (drop i s) ≡ next (more (drop e s)) (λ xs r. got (x ∷ xs) r) → i ≤ e → e ≤ length s
+        → ((xs : List A) → P xs → Q (xs ++ (x ∷ []))) → ReadUpTo more Q s at e
+    read-more x e m o l f =
         let a = p .onward in
-        let o = g .onward in
         record {
           items = p .items ++ (x ∷ []);
           reads =
               p .reads
-              ∙ ap (λ (r : Read (List A)). next r (λ xs r. got (p .items ++ xs) r)) (each-more c item t s i h b x (drop e s) (g .reads))
-              ∙ next-assoc (each c item (drop e s)) (λ xs r. got (x ∷ xs) r) (λ xs r. got (p .items ++ xs) r)
-              ∙ next-same (each c item (drop e s)) (λ xs r. got (p .items ++ (x ∷ xs)) r) (λ xs r. got ((p .items ++ (x ∷ [])) ++ xs) r)
+              ∙ ap (λ (r : Read (List A)). next r (λ xs r. got (p .items ++ xs) r)) m
+              ∙ next-assoc (more (drop e s)) (λ xs r. got (x ∷ xs) r) (λ xs r. got (p .items ++ xs) r)
+              ∙ next-same (more (drop e s)) (λ xs r. got (p .items ++ (x ∷ xs)) r) (λ xs r. got ((p .items ++ (x ∷ [])) ++ xs) r)
               (λ xs r. ap (λ (l : List A). got l r) (sym (append-assoc (p .items) (x ∷ []) xs)));
           onward = omega arith;
-          inside = g .inside;
+          inside = l;
           holds = f (p .items) (p .holds);
         }
 
-    pub passed-stuck : {q : ℕ} → Fails item s (i + 1) q → Fails (each c item) s at q
-    passed-stuck {q} g =
+    pub read-stuck : {q : ℕ} → more (drop i s) ≡ stuck (drop q s) → i ≤ q → q ≤ length s → Fails more s at q
+    read-stuck {q} m o l =
         let a = p .onward in
-        let o = g .onward in
+        record { reads = p .reads ∙ ap (λ (r : Read (List A)). next r (λ xs r. got (p .items ++ xs) r)) m; onward = omega arith; inside = l }
+
+    pub read-stop : more (drop i s) ≡ got [] (drop i s) → Got more s at (p .items) i
+    read-stop e =
         record {
-          reads = p .reads ∙ ap (λ (r : Read (List A)). next r (λ xs r. got (p .items ++ xs) r)) (each-stuck c item s i h b (drop q s) (g .reads));
-          onward = omega arith;
-          inside = g .inside;
+          reads = p .reads ∙ ap (λ (r : Read (List A)). next r (λ xs r. got (p .items ++ xs) r)) e ∙ ap (λ (l : List A). got l (drop i s)) (append-nil (p .items));
+          onward = p .onward;
+          inside = p .inside;
         }
 
+-- each behind a byte c
+abbrev pub ItemsUpTo : {A : Type 0} → ℕ → Reader A → (List A → Type 0) → Bytes → ℕ → ℕ → Type 0
+ItemsUpTo c item P s at i = ReadUpTo (each c item) P s at i
+
+module _ {A : Type 0} (c : ℕ) (item : Reader A) (s : Bytes) (at : ℕ) where
+  pub passed-none : {P : List A → Type 0} → at ≤ length s → P [] → ItemsUpTo c item P s at at
+  passed-none h p = read-none (each c item) s at h p
+
+  module _ {P : List A → Type 0} (i : ℕ) (p : ItemsUpTo c item P s at i) (h : i < length s) (b : getD s i 0 ≡ c) where
+    pub passed-more : {Q : List A → Type 0} {allowed : ℕ → Bool} {n : ℕ} {x : A} {e : ℕ} → Takes allowed n item → Got item s (i + 1) x e
+        → ((xs : List A) → P xs → Q (xs ++ (x ∷ []))) → ItemsUpTo c item Q s at e
+    passed-more {x = x} {e = e} t g f = let o = g .onward in read-more (each c item) s at i p x e (each-more c item t s i h b x (drop e s) (g .reads)) (omega arith) (g .inside) f
+
+    pub passed-stuck : {q : ℕ} → Fails item s (i + 1) q → Fails (each c item) s at q
+    passed-stuck {q} g = let o = g .onward in read-stuck (each c item) s at i p (each-stuck c item s i h b (drop q s) (g .reads)) (omega arith) (g .inside)
+
   pub passed-stop : {P : List A → Type 0} (i : ℕ) (p : ItemsUpTo c item P s at i) → each c item (drop i s) ≡ got [] (drop i s) → Got (each c item) s at (p .items) i
-  passed-stop i p e =
-      record {
-        reads = p .reads ∙ ap (λ (r : Read (List A)). next r (λ xs r. got (p .items ++ xs) r)) e ∙ ap (λ (l : List A). got l (drop i s)) (append-nil (p .items));
-        onward = p .onward;
-        inside = p .inside;
-      }
+  passed-stop i p e = read-stop (each c item) s at i p e
 
 -- the items all told
 pub passed-took : {A : Type 0} (c : ℕ) (item : Reader A) (marks : List A → List Mark) {P : List A → Type 0} (s : Bytes) (at i why byte : ℕ)

@@ -93,7 +93,7 @@ module _ (greatest at i : ℕ) (ts : List WrittenTerm) (t : WrittenTerm) where
           ∙ sym (cond-no (leb fieldTerms (length (ts ++ (t ∷ [])))) (place (span (moreMarks greatest (take (fieldTerms - 1) (ts ++ (t ∷ [])))))) 0 u)
 
 -- ---- terms behind a first
-worded-append : (p q : Written) → worded (p ++ q) ≡ worded p ++ worded q
+pub worded-append : (p q : Written) → worded (p ++ q) ≡ worded p ++ worded q
 unfolding worded
 worded-append [] q = refl
 worded-append (t ∷ p) q = ap (λ (r : Poly). wordedTerm t ∷ r) (worded-append p q)

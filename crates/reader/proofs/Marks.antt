@@ -66,7 +66,7 @@ pub told-none : (at : ℕ) → Told [] at at ACCEPTED 0
 unfolding span total firstOutside allFine every
 told-none at = record { ends = omega arith; verdict = refl; outside = refl }
 
-verdict-then : (a b : Bool) → firstOf (cond a ACCEPTED NUMBER) (cond b ACCEPTED NUMBER) ≡ cond (a && b) ACCEPTED NUMBER
+pub verdict-then : (a b : Bool) → firstOf (cond a ACCEPTED NUMBER) (cond b ACCEPTED NUMBER) ≡ cond (a && b) ACCEPTED NUMBER
 unfolding firstOf
 verdict-then true b = refl
 verdict-then false b = refl
@@ -98,7 +98,7 @@ told-out {ms} {ns} {at} {i} {e} {why} {byte} {byte′} a b =
     subst (λ (w : ℕ). Told (ms ++ ns) at e w (firstOf byte byte′)) q (told-then a b)
 
 -- what is told is no FORM
-verdict-of : (t : Bool) → cond t ACCEPTED NUMBER ≡ FORM → ⊥
+pub verdict-of : (t : Bool) → cond t ACCEPTED NUMBER ≡ FORM → ⊥
 verdict-of true e = omega arith
 verdict-of false e = omega arith
 

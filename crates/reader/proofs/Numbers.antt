@@ -9,7 +9,7 @@ use lib.ListN.{length, drop, getD}
 use borrow.Author.Tests.{leb-true, ltb-true, lt-ltb, le-leb, lt-leb}
 use Rattle.ground.proofs.Tests.{bool-ext}
 use Rattle.limits.specs.Verdicts.{FORM, NUMBER}
-use Rattle.paper.specs.Grammar.{Bytes, Reader, got, digits, decimal}
+use Rattle.paper.specs.Grammar.{Bytes, Reader, got, digits}
 use Rattle.paper.specs.Statement.{within}
 use Rattle.paper.proofs.Pieces.{digits-more, digits-least}
 use Rattle.reader.specs.Places.{Got, Fails}
@@ -84,13 +84,13 @@ module _ (low high v : ℕ) where
       go true = lt-leb v high h
       go false = refl
 
-pub number-refused : (low high : ℕ) (s : Bytes) (at : ℕ) → high < 2 ^ 64 → (d : Decimal) → DecimalIs decimal s at d
-    → ((v e : ℕ) → d ≡ Value v e → within low high v ≡ false) → NumberIs decimal low high s at (outsideOf d)
-number-refused low high s at h (Value v e) d o = inl (refl, record { value = v; outside = o v e refl; taken = d })
-number-refused low high s at h (Large e) d o =
+pub number-refused : (f : Reader ℕ) (low high : ℕ) (s : Bytes) (at : ℕ) → high < 2 ^ 64 → (d : Decimal) → DecimalIs f s at d
+    → ((v e : ℕ) → d ≡ Value v e → within low high v ≡ false) → NumberIs f low high s at (outsideOf d)
+number-refused f low high s at h (Value v e) d o = inl (refl, record { value = v; outside = o v e refl; taken = d })
+number-refused f low high s at h (Large e) d o =
     let l = d .large in
     inl (refl, record { value = d .value; outside = within-above low high (d .value) (omega arith); taken = d .taken })
-number-refused low high s at h (Stuck p) d o = inr (refl, d)
+number-refused f low high s at h (Stuck p) d o = inr (refl, d)
 
 -- ---- a number's answer taken apart
 module _ (read : Reader ℕ) (low high : ℕ) (s : Bytes) (at : ℕ) where

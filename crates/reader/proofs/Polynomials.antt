@@ -88,12 +88,12 @@ zero-outside greatest t z h a =
     omega arith
 
 -- ---- counts
-verdict-first : (a b : Bool) → firstOf (cond a ACCEPTED NUMBER) (cond b TERMS ACCEPTED) ≡ first ((NUMBER, not a) ∷ (TERMS, b) ∷ [])
+pub verdict-first : (a b : Bool) → firstOf (cond a ACCEPTED NUMBER) (cond b TERMS ACCEPTED) ≡ first ((NUMBER, not a) ∷ (TERMS, b) ∷ [])
 unfolding firstOf first
 verdict-first true b = refl
 verdict-first false b = refl
 
-few : (b : Bool) → cond b TERMS ACCEPTED ≡ ACCEPTED → b ≡ false
+pub few : (b : Bool) → cond b TERMS ACCEPTED ≡ ACCEPTED → b ≡ false
 few true e = absurd (let z : ⊥ = omega arith in z)
 few false e = refl
 

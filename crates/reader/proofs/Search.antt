@@ -9,11 +9,11 @@ use native.Mathlib.Omega.{arith}
 use lib.ListN.{length, drop, getD, length-drop, take-append-drop}
 use lib.Seq.{drop-cons, drop-drop, take-all, getD-take, getD-drop}
 use borrow.Author.Count.{below-more}
-use borrow.Author.Tests.{ne-eqb}
+use borrow.Author.Tests.{eq-eqb, ne-eqb}
 use Rattle.words.specs.Parts.{part, amongEight}
 use Rattle.words.proofs.Parts.{length-part}
 use Rattle.words.proofs.Eight.{below-eight}
-use Rattle.paper.specs.Grammar.{Bytes, onFirst, lines}
+use Rattle.paper.specs.Grammar.{Bytes, onFirst, endedBy, lines}
 use Rattle.reader.specs.Search.{Without, FirstOrEnd, LineEnd}
 
 -- ---- b is none of the bytes from at up to i
@@ -42,19 +42,21 @@ module _ (s : Bytes) (at : ℕ) where
       let l : k < i - at = omega (arith, length-part at (i - at) s (omega arith)) in
       w .none (at + k) (omega arith) (omega arith) (sym (getD-take (i - at) (drop at s) k 0 l ∙ getD-drop at s k 0) ∙ e)
 
--- ---- lines
-lines-ended : (w t : Bytes) → ((k : ℕ) → k < length w → getD w k 0 ≡ 10 → ⊥) → lines (w ++ (10 ∷ t)) ≡ record { content = w; ended = true } ∷ lines t
-unfolding lines onFirst
-lines-ended [] t n = refl
-lines-ended (b ∷ w) t n = rw (ne-eqb b 10 (n 0 (omega arith)), lines-ended w t (λ k h. n (suc k) (omega arith)))
+-- ---- what the byte c ends
+module _ (c : ℕ) where
+  ended-first : (w t : Bytes) → ((k : ℕ) → k < length w → getD w k 0 ≡ c → ⊥) → endedBy c (w ++ (c ∷ t)) ≡ record { content = w; ended = true } ∷ endedBy c t
+  unfolding endedBy onFirst
+  ended-first [] t n = rw (eq-eqb c c refl)
+  ended-first (b ∷ w) t n = rw (ne-eqb b c (n 0 (omega arith)), ended-first w t (λ k h. n (suc k) (omega arith)))
 
-lines-last : (w : Bytes) → 0 < length w → ((k : ℕ) → k < length w → getD w k 0 ≡ 10 → ⊥) → lines w ≡ record { content = w; ended = false } ∷ []
-unfolding lines onFirst
-lines-last [] h n = absurd (not-suc-le-zero h)
-lines-last (b ∷ []) h n = rw (ne-eqb b 10 (n 0 (omega arith)))
-lines-last (b ∷ d ∷ w) h n = rw (ne-eqb b 10 (n 0 (omega arith)), lines-last (d ∷ w) (omega arith) (λ k l. n (suc k) (omega arith)))
+  unended : (w : Bytes) → 0 < length w → ((k : ℕ) → k < length w → getD w k 0 ≡ c → ⊥) → endedBy c w ≡ record { content = w; ended = false } ∷ []
+  unfolding endedBy onFirst
+  unended [] h n = absurd (not-suc-le-zero h)
+  unended (b ∷ []) h n = rw (ne-eqb b c (n 0 (omega arith)))
+  unended (b ∷ d ∷ w) h n = rw (ne-eqb b c (n 0 (omega arith)), unended (d ∷ w) (omega arith) (λ k l. n (suc k) (omega arith)))
 
 pub line-end : (text : Bytes) (at r : ℕ) → FirstOrEnd 10 text at r → LineEnd text at r
+unfolding lines
 line-end text at r f =
     record {
       onward = f .without .onward;
@@ -62,8 +64,8 @@ line-end text at r f =
       ended = λ h.
           let d : drop r text ≡ 10 ∷ drop (r + 1) text = drop-cons text r 0 h ∙ ap₂ _∷_ (f .found h) (ap (λ (n : ℕ). drop n text) (sym (add-one r))) in
           ap lines (sym (part-then text at r (f .without .onward)) ∙ ap (λ (l : Bytes). part at (r - at) text ++ l) d)
-          ∙ lines-ended (part at (r - at) text) (drop (r + 1) text) (part-without text at 10 r (f .without));
+          ∙ ended-first 10 (part at (r - at) text) (drop (r + 1) text) (part-without text at 10 r (f .without));
       last = λ h l.
           let p : part at (r - at) text ≡ drop at text = take-all (r - at) (drop at text) (omega (arith, length-drop at text)) in
-          ap lines (sym p) ∙ lines-last (part at (r - at) text) (omega (arith, ap length p, length-drop at text)) (part-without text at 10 r (f .without));
+          ap lines (sym p) ∙ unended 10 (part at (r - at) text) (omega (arith, ap length p, length-drop at text)) (part-without text at 10 r (f .without));
     }

@@ -33,7 +33,7 @@ pub struct FieldRead {
 }
 
 // Puts a term behind the n terms of out, if there is room for it and its numbers are in their ranges.
-fn put_term(out: &mut [u64], n: usize, t: Term, why: u64)
+pub fn put_term(out: &mut [u64], n: usize, t: Term, why: u64)
     requires { ⌜ fieldTerms * termWords ≤ length (now out) ⌝ }
     ensures { λ _. ⌜ PutBehind n why t (now (out .entry)) (now (out .exit)) ⌝ }
 {
@@ -108,7 +108,7 @@ fn no_terms(end: usize, why: u64) -> FieldRead
 }
 
 // TERMS, where nothing before it applies.
-fn with_count(why: u64, terms: usize) -> u64
+pub fn with_count(why: u64, terms: usize) -> u64
     ensures { λ r. ⌜ r ≡ firstOf why (cond (ltb fieldTerms terms) TERMS ACCEPTED) ⌝ }
 {
     if limits::FIELD_TERMS < terms {

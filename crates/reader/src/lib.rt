@@ -3,4 +3,4 @@ pub mod field;
 pub mod find;
 pub mod keyword;
 pub mod number;
-mod term;
+pub mod term;

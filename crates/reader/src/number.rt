@@ -59,7 +59,7 @@ fn digits_end(s: &[u8], at: usize) -> usize
 }
 
 // The decimal whose digits before at have the value first.
-fn digits_from(s: &[u8], at: usize, first: u64) -> Decimal
+pub fn digits_from(s: &[u8], at: usize, first: u64) -> Decimal
     requires { ⌜ at ≤ length (now s) ⌝ }
     ensures { λ r. ⌜ DecimalIs (digits first) (now (s .entry)) at r ⌝ }
 {
@@ -105,7 +105,7 @@ pub fn decimal_at(s: &[u8], at: usize) -> Decimal
 }
 
 // How a decimal that is no number in its range is refused.
-fn outside(d: Decimal) -> Number
+pub fn outside(d: Decimal) -> Number
     ensures { λ r. ⌜ r ≡ outsideOf d ⌝ }
 {
     match d {

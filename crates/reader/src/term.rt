@@ -37,14 +37,14 @@ pub(crate) struct TermRead {
 }
 
 // Whether the byte b stands at at.
-pub(crate) fn stands_at(s: &[u8], at: usize, b: u8) -> bool
+pub fn stands_at(s: &[u8], at: usize, b: u8) -> bool
     ensures { λ r. ⌜ r ≡ standsAt (now (s .entry)) at b ⌝ }
 {
     if at < s.len() { s[at] == b } else { false }
 }
 
 // The first of two verdicts.
-pub(crate) fn first_verdict(a: u64, b: u64) -> u64
+pub fn first_verdict(a: u64, b: u64) -> u64
     ensures { λ r. ⌜ r ≡ firstOf a b ⌝ }
 {
     if a == limits::ACCEPTED { b } else { a }
@@ -107,7 +107,7 @@ fn behind_sign(at: usize, negative: bool) -> usize
 }
 
 // A magnitude with its sign.
-fn signed(c: u64, negative: bool) -> u64
+pub fn signed(c: u64, negative: bool) -> u64
     ensures { λ r. ⌜ r ≡ signedWord negative c ⌝ }
 {
     if negative {

@@ -14,7 +14,6 @@ use Rattle.terms.specs.Terms.{decode}
 use Rattle.terms.proofs.Decode.{decode-part}
 use Rattle.paper.specs.Statement.{Written, modulo, goal, reduced}
 use Rattle.paper.specs.Rules.{first, inputs, steps, shows, holdsGoal}
-use Rattle.written.specs.Worded.{Holds}
 use Rattle.table.specs.Table.{storeOf}
 use Rattle.scratch.specs.Scratch.{statedAt, goalAt, RunAt, ReducedAt}
 use Rattle.scratch.specs.declared.Reduced.{Reduced}
@@ -26,10 +25,10 @@ use Rattle.steps.proofs.Rules.{first-goal}
 use Rattle.steps.proofs.After.{after-goal}
 use Rattle.steps.proofs.Stepping.{stepped-refused, told, order-refuses, order-passes}
 
-module _ {capacity : ℕ} {s : State} {pool scratch : List ℕ} {n : ℕ} {p : Written} (h : Holds p n statedAt scratch) where
+module _ {capacity : ℕ} {s : State} {pool scratch : List ℕ} {p : Written} where
   pub goal-misplaced : {r : Step} → (s .phase ≡ inputs → ⊥) → (r .verdict ≡ ORDER) × (r .state ≡ s) → Stepped capacity (goal p) s pool scratch r pool scratch
   goal-misplaced z r =
-      stepped-refused ORDER (λ e. omega (arith, e)) (first-goal capacity (stateOf s pool scratch) p (h .ranged) (h .short) ∙ order-refuses inputs (s .phase) [] z) r refl
+      stepped-refused ORDER (λ e. omega (arith, e)) (first-goal capacity (stateOf s pool scratch) p ∙ order-refuses inputs (s .phase) [] z) r refl
 
   -- the field reduced, and copied to the goal's region
   pub goal-stands : {x scratch′ seen : List ℕ} {reached : Bool} {f : Reduced} → Room capacity s pool scratch → s .phase ≡ inputs
@@ -56,7 +55,7 @@ module _ {capacity : ℕ} {s : State} {pool scratch : List ℕ} {n : ℕ} {p : W
       let reached-too : reached ≡ holdsGoal (reduced (s .ring) p) (storeOf (s .table) pool)
       = b ∙ ap (λ (y : Poly). holdsGoal y (storeOf (s .table) pool)) (decode-part (f .terms) goalAt (length scratch′ - goalAt) scratch′ (omega (arith, d .at .few, l, o .room)) ∙ same) in
       told v (record {
-        verdict = first-goal capacity (stateOf s pool scratch) p (h .ranged) (h .short) ∙ order-passes inputs (s .phase) [] z;
+        verdict = first-goal capacity (stateOf s pool scratch) p ∙ order-passes inputs (s .phase) [] z;
         next = λ _. (λ i. record {
           phase = steps;
           ring = modulo (s .ring);

@@ -1,14 +1,15 @@
 -- What `ItemIs`, the contract of a reader of items, decides: what is said; of a statement the words of its polynomial, and of a lin as much of the sum as
 -- that of `add_factor` does; and that all from the goal's region on is kept. The other words of the regions before it, and the sum of
 -- what is no lin, are left open. Assumes nothing.
-use mathlib.Core.Path.{_≡_, refl, sym, ap, ap₂, subst, _∙_}
-use mathlib.Core.Bool.{Bool, true, false, cond}
+use mathlib.Core.Path.{_≡_, refl, sym, ap, subst, _∙_}
+use mathlib.Core.Bool.{Bool, false, cond}
 use mathlib.Core.List.{List, []}
 use Prim.Native.Nat.{ℕ, _*_}
 use native.Mathlib.Omega.{arith}
 use lib.Dec.{eqb}
 use lib.ListN.{length, drop}
 use borrow.Author.Tests.{eq-eqb, ne-eqb}
+use Rattle.ground.proofs.Tests.{cond-yes, cond-no}
 use Rattle.limits.specs.Limits.{termWords}
 use Rattle.limits.specs.Verdicts.{ACCEPTED, LONGLINE, FORM}
 use Rattle.words.specs.Parts.{part, Within}
@@ -16,8 +17,8 @@ use Rattle.words.proofs.Laws.{Words}
 use Rattle.terms.specs.Terms.{decode}
 use Rattle.terms.proofs.Decided.{one-run-at}
 use Rattle.paper.specs.Grammar.{Bytes, Read, got, stuck}
-use Rattle.paper.specs.Statement.{Written, Pair, bits, Statement, ring, input, goal, lin, del, ext, onLin, numbersInRange}
-use Rattle.paper.specs.Rules.{first, Store}
+use Rattle.paper.specs.Statement.{Written, Pair, bits, Statement, ring, input, goal, lin, del, ext, onLin}
+use Rattle.paper.specs.Rules.{Store}
 use Rattle.paper.specs.Answer.{Item}
 use Rattle.written.specs.Worded.{worded}
 use Rattle.scratch.specs.Scratch.{statedAt, goalAt}
@@ -27,7 +28,7 @@ use Rattle.sums.proofs.Decided.{SameSum, sums-alike}
 use Rattle.steps.specs.declared.said.Said.{Said}
 use Rattle.steps.specs.declared.said.Said.the-variants.{Ring, Input, Goal, Lin, Del, Ext, Refused}
 use Rattle.steps.specs.declared.said.ItemRead.{ItemRead}
-use Rattle.steps.specs.Items.{verdictOf, fewInFields, Means, Tells, long, stops, turns, passes, ItemIs}
+use Rattle.steps.specs.Items.{Means, Tells, long, stops, turns, passes, ItemIs}
 use Rattle.steps.proofs.Decided.{IsSet}
 
 -- ---- a statement: what is said of it, its polynomial, and its pairs
@@ -84,41 +85,33 @@ module _ (k : ℕ) (store : Store) (words : List ℕ) (sum : Sum) (st : Statemen
   means-sum e m = let h = subst (Means k store words sum st) e m in subst (λ (qs : List Pair). Summed k store qs words sum) (ap pairsOf (sym (h .2 .1))) (h .1)
 
 -- ---- an item: what is said of it
-abbrev readSays : Read Statement → Said
-readSays (got st r) = let v : ℕ = verdictOf (numbersInRange st) (fewInFields st) in cond (eqb v ACCEPTED) (saidOf st) (Refused v)
-readSays (stuck r) = Refused FORM
+abbrev readSays : ℕ → Read Statement → Said
+readSays written (got st r) = cond (eqb written ACCEPTED) (saidOf st) (Refused written)
+readSays written (stuck r) = Refused FORM
 
 abbrev says : Item → Said
-says i = cond (i .long) (Refused LONGLINE) (readSays (i .reads))
-
-accepted : (a b : Bool) → a ≡ true → b ≡ true → verdictOf a b ≡ ACCEPTED
-unfolding first
-accepted a b e f = ap₂ verdictOf e f
+says i = cond (i .long) (Refused LONGLINE) (readSays (i .written) (i .reads))
 
 module _ {k : ℕ} {store : Store} {i : Item} {words : List ℕ} {sum : Sum} {said : Said} where
   tells-said : Tells k store i words sum said → said ≡ says i
   tells-said t = go t
     where
-      short : i .long ≡ false → {x : Read Statement} → i .reads ≡ x → readSays x ≡ says i
-      short e f = ap readSays (sym f) ∙ ap (λ (b : Bool). cond b (Refused LONGLINE) (readSays (i .reads))) (sym e)
-
-      judged : (st : Statement) {b : Bool} → eqb (verdictOf (numbersInRange st) (fewInFields st)) ACCEPTED ≡ b
-          → cond b (saidOf st) (Refused (verdictOf (numbersInRange st) (fewInFields st))) ≡ readSays (got st [])
-      judged st e = ap (λ (b : Bool). cond b (saidOf st) (Refused (verdictOf (numbersInRange st) (fewInFields st)))) (sym e)
+      short : i .long ≡ false → {x : Read Statement} → i .reads ≡ x → readSays (i .written) x ≡ says i
+      short e f = ap (readSays (i .written)) (sym f) ∙ ap (λ (b : Bool). cond b (Refused LONGLINE) (readSays (i .written) (i .reads))) (sym e)
 
       go : Tells k store i words sum said → said ≡ says i
-      go (long e q) = q ∙ ap (λ (b : Bool). cond b (Refused LONGLINE) (readSays (i .reads))) (sym e)
+      go (long e q) = q ∙ ap (λ (b : Bool). cond b (Refused LONGLINE) (readSays (i .written) (i .reads))) (sym e)
       go (stops e r f q) = q ∙ short e f
-      go (turns e st r f q n) = q ∙ judged st (ne-eqb (verdictOf (numbersInRange st) (fewInFields st)) ACCEPTED n) ∙ short e f
-      go (passes e st r f a b m) =
+      go (turns e st r f q n) = q ∙ sym (cond-no (eqb (i .written) ACCEPTED) (saidOf st) (Refused (i .written)) (ne-eqb (i .written) ACCEPTED n)) ∙ short e f
+      go (passes e st r f a g m) =
           means-said k store words sum st said m
-          ∙ judged st (eq-eqb (verdictOf (numbersInRange st) (fewInFields st)) ACCEPTED (accepted (numbersInRange st) (fewInFields st) a b)) ∙ short e f
+          ∙ sym (cond-yes (eqb (i .written) ACCEPTED) (saidOf st) (Refused (i .written)) (eq-eqb (i .written) ACCEPTED a)) ∙ short e f
 
   tells-means : ((why : ℕ) → said ≡ Refused why → ⊥) → Tells k store i words sum said → (st : Statement) × (r : Bytes) × (i .reads ≡ got st r) × Means k store words sum st said
   tells-means n (long e q) = absurd (n LONGLINE q)
   tells-means n (stops e r f q) = absurd (n FORM q)
-  tells-means n (turns e st r f q _) = absurd (n (verdictOf (numbersInRange st) (fewInFields st)) q)
-  tells-means n (passes e st r f a b m) = (st, r, f, m)
+  tells-means n (turns e st r f q _) = absurd (n (i .written) q)
+  tells-means n (passes e st r f a g m) = (st, r, f, m)
 
 -- ---- `read_line`
 pub record SameItem (r q : List ℕ) (x y : ItemRead) : Type 0 where

@@ -1,18 +1,19 @@
 -- What makes a judged item: one that reading refuses, and one that is stepped. Assumes nothing.
 use mathlib.Core.Path.{_≡_, refl, sym, ap, subst, _∙_}
-use mathlib.Core.Bool.{Bool, true, false, not, cond}
+use mathlib.Core.Bool.{cond}
 use mathlib.Core.List.{List}
 use Prim.Native.Nat.{ℕ, _<_}
 use native.Mathlib.Omega.{arith}
+use lib.Dec.{eqb}
 use borrow.Author.Tests.{ne-eqb, lt-leb}
-use Rattle.ground.specs.Lists.{any}
-use Rattle.limits.specs.Verdicts.{LONGLINE, FORM, NUMBER, TERMS}
+use Rattle.ground.proofs.Tests.{cond-no}
+use Rattle.limits.specs.Verdicts.{ACCEPTED, LONGLINE, FORM, TERMS}
 use Rattle.paper.specs.Grammar.{Bytes, Read, got, stuck}
-use Rattle.paper.specs.Statement.{Written, Pair, modulo, Statement, ring, input, goal, lin, del, ext, fields, numbersInRange, tooManyTerms}
+use Rattle.paper.specs.Statement.{Written, Pair, modulo, Statement, ring, input, goal, lin, del, ext}
 use Rattle.paper.specs.Rules as paper
 use Rattle.paper.specs.Rules.{first, Store, rules, after}
 use Rattle.paper.specs.Answer.{stands, refused, judge, Item, judgeItem}
-use Rattle.paper.proofs.Running.{judge-stands}
+use Rattle.paper.proofs.Running.{judge-stands, item-long, item-stuck, item-read}
 use Rattle.written.specs.Worded.{Holds}
 use Rattle.table.specs.Table.{storeOf}
 use Rattle.scratch.specs.Scratch.{statedAt}
@@ -25,7 +26,7 @@ use Rattle.steps.specs.declared.state.State.{State}
 use Rattle.steps.specs.declared.state.Step.{Step}
 use Rattle.steps.specs.State.{stateOf}
 use Rattle.steps.specs.Stepped.{Room, Stepped}
-use Rattle.steps.specs.Items.{verdictOf, fewInFields, Stated, Means, Tells, long, stops, turns, passes, ItemIs, indexOfRead, ItemJudged}
+use Rattle.steps.specs.Items.{Stated, Means, Tells, long, stops, turns, passes, ItemIs, indexOfRead, ItemJudged}
 use Rattle.steps.proofs.Calling.{room-kept, state-kept}
 use Rattle.steps.proofs.Asking.{Spoken, spoken}
 
@@ -37,36 +38,13 @@ early-none v (stuck r) h = refl
 same-refusal : {v w : ℕ} → Refused v ≡ Refused w → v ≡ w
 same-refusal e = cc
 
--- the rows NUMBER and TERMS, and those behind them
-rows-same : (a b : Bool) (v : ℕ) → (cond (not a) NUMBER (cond (not (not b)) TERMS 0) ≡ 0 → ⊥) → cond (not a) NUMBER (cond b TERMS v) ≡ cond (not a) NUMBER (cond (not (not b)) TERMS 0)
-rows-same true true v n = refl
-rows-same true false v n = absurd (n refl)
-rows-same false b v n = refl
-
-first-read : (capacity : ℕ) (s : paper.State) (st : Statement) → (verdictOf (numbersInRange st) (fewInFields st) ≡ 0 → ⊥)
-    → first (rules capacity s st) ≡ verdictOf (numbersInRange st) (fewInFields st)
-unfolding first rules fewInFields
-first-read capacity s st n = rows-same (numbersInRange st) (any tooManyTerms (fields st)) _ n
-
 -- ---- an item in a state of the paper
 module _ (capacity : ℕ) (s : paper.State) (i : Item) where
-  item-long : i .long ≡ true → judgeItem capacity s i ≡ refused LONGLINE 0
-  unfolding judgeItem
-  item-long e = rw e refl
-
-  module _ (l : i .long ≡ false) where
-    item-stuck : {r : Bytes} → i .reads ≡ stuck r → judgeItem capacity s i ≡ refused FORM 0
-    unfolding judgeItem
-    item-stuck e = rw (l, e) refl
-
-    item-read : {st : Statement} {r : Bytes} → i .reads ≡ got st r → judgeItem capacity s i ≡ judge capacity s st
-    unfolding judgeItem
-    item-read e = rw (l, e) refl
-
-    -- the statement st is refused with v
-    item-refused : {st : Statement} {r : Bytes} → i .reads ≡ got st r → (v : ℕ) → (v ≡ 0 → ⊥) → first (rules capacity s st) ≡ v → judgeItem capacity s i ≡ refused v (indexOfRead v (i .reads))
-    unfolding judge
-    item-refused {st} e v n f = item-read e ∙ rw (f, ne-eqb v 0 n) refl ∙ ap (λ (x : Read Statement). refused v (indexOfRead v x)) (sym e)
+  -- the statement st is refused with v, by the verdict w on what is written or behind it
+  item-refused : (st : Statement) (r : Bytes) → i .reads ≡ got st r → (w : ℕ) → judgeItem capacity s i ≡ judge capacity s w st
+      → (v : ℕ) → (v ≡ 0 → ⊥) → cond (eqb w ACCEPTED) (first (rules capacity s st)) w ≡ v → judgeItem capacity s i ≡ refused v (indexOfRead v (i .reads))
+  unfolding judge
+  item-refused st r e w j v n f = j ∙ rw (f, ne-eqb v 0 n) refl ∙ ap (λ (x : Read Statement). refused v (indexOfRead v x)) (sym e)
 
   -- what reading refuses
   abbrev RefusedWith : ℕ → Type 0
@@ -77,10 +55,12 @@ module _ (capacity : ℕ) (s : paper.State) (i : Item) where
   refused-early v n l e = (n, e ∙ ap (refused v) (sym (early-none v (i .reads) l)))
 
   by-reading : {k : ℕ} {store : Store} {words : List ℕ} {sum : Sum} {said : Said} {why : ℕ} → Tells k store i words sum said → said ≡ Refused why → RefusedWith why
-  by-reading (long l q) e = subst RefusedWith (same-refusal (sym q ∙ e)) (refused-early LONGLINE (λ z. omega arith) (omega arith) (item-long l))
-  by-reading (stops l r f q) e = subst RefusedWith (same-refusal (sym q ∙ e)) (refused-early FORM (λ z. omega arith) (omega arith) (item-stuck l f))
-  by-reading (turns l st r f q d) e = subst RefusedWith (same-refusal (sym q ∙ e)) (d, item-refused l f (verdictOf (numbersInRange st) (fewInFields st)) d (first-read capacity s st d))
-  by-reading {k} {store} {words} {sum} (passes l st r f g h m) e = absurd (subst (Means k store words sum st) e m)
+  by-reading (long l q) e = subst RefusedWith (same-refusal (sym q ∙ e)) (refused-early LONGLINE (λ z. omega arith) (omega arith) (item-long capacity s i l))
+  by-reading (stops l r f q) e = subst RefusedWith (same-refusal (sym q ∙ e)) (refused-early FORM (λ z. omega arith) (omega arith) (item-stuck capacity s i l r f))
+  by-reading (turns l st r f q d) e =
+      let w : ℕ = i .written in
+      subst RefusedWith (same-refusal (sym q ∙ e)) (d, item-refused st r f w (item-read capacity s i l st r f) w d (cond-no (eqb w ACCEPTED) (first (rules capacity s st)) w (ne-eqb w ACCEPTED d)))
+  by-reading {k} {store} {words} {sum} (passes l st r f a g m) e = absurd (subst (Means k store words sum st) e m)
 
 module _ {capacity : ℕ} {item : Item} {s : State} {pool words words′ : List ℕ} {read : ItemRead} (x : ItemIs (s .ring) (storeOf (s .table) pool) item words words′ read) where
   pub judged-refused : {why : ℕ} → read .said ≡ Refused why → ItemJudged capacity item s pool words (record { verdict = why; state = s }) pool words′
@@ -102,14 +82,16 @@ module _ {capacity : ℕ} {item : Item} {s : State} {pool words words′ : List 
       → {r : Step} {pool′ words″ : List ℕ} → Stepped capacity st s pool words′ r pool′ words″ → ItemJudged capacity item s pool words r pool′ words″
   judged {st = st} a is {r} q =
       let f : item .reads ≡ got st (a .rest) = a .reads ∙ ap (λ (y : Statement). got y (a .rest)) is in
+      let j : judgeItem capacity (stateOf s pool words) item ≡ judge capacity (stateOf s pool words) 0 st =
+      item-read capacity (stateOf s pool words) item (a .short) st (a .rest) f ∙ ap (λ (w : ℕ). judge capacity (stateOf s pool words) w st) (a .accepted) in
       let e : stateOf s pool words′ ≡ stateOf s pool words = state-kept s pool words words′ (x .kept .after) in
       let v : first (rules capacity (stateOf s pool words) st) ≡ r .verdict = subst (λ (y : paper.State). first (rules capacity y st) ≡ r .verdict) e (q .verdict) in
       record {
-        stands = λ z. item-read capacity (stateOf s pool words) item (a .short) f ∙ judge-stands capacity (stateOf s pool words) st (v ∙ z)
+        stands = λ z. j ∙ judge-stands capacity (stateOf s pool words) st (v ∙ z)
             ∙ ap (λ (y : paper.State). stands y) (ap (λ (y : paper.State). after y st) (sym e) ∙ sym (q .next z));
         ready = q .ready;
         lines = q .lines;
-        refused = λ n. item-refused capacity (stateOf s pool words) item (a .short) f (r .verdict) n v;
+        refused = λ n. item-refused capacity (stateOf s pool words) item st (a .rest) f 0 j (r .verdict) n v;
         back = q .back;
         untouched = q .untouched;
         pool-length = q .pool-length;

@@ -1,17 +1,16 @@
 -- What a statement that stores a polynomial asks for and changes. Assumes nothing.
 use mathlib.Core.Path.{_≡_}
-use mathlib.Core.Bool.{Bool, true, false, _||_}
+use mathlib.Core.Bool.{Bool, false, _||_}
 use mathlib.Core.List.{List, [], _++_}
 use Prim.Native.Nat.{ℕ, _*_, _^_, _<_}
 use native.Mathlib.Omega.{arith}
 use lib.Bits.{bitOr}
 use lib.ListN.{length}
 use Rattle.algebra.specs.Polynomial.{Poly, equal, extension}
-use Rattle.paper.specs.Statement.{Written, Pair, bits, Statement, input, lin, ext, isIndex, isVariable, reduced}
+use Rattle.paper.specs.Statement.{Written, Pair, bits, Statement, input, lin, ext, reduced}
 use Rattle.paper.specs.Rules.{entry, first, inputs, steps, State, stored, find, rules, after, shows, showsAll, overfull}
-use Rattle.written.specs.Worded.{Holds}
 use Rattle.sums.specs.Rows.{Rows}
-use Rattle.sums.specs.Sums.{factorsOf, PairsFit, productsOf}
+use Rattle.sums.specs.Sums.{factorsOf, productsOf}
 use Rattle.sums.proofs.Rows.{Refusing}
 use Rattle.steps.specs.Parts.{admitRows, linRows, extRows, fullRows}
 use Rattle.steps.proofs.Rules.{first-input, first-ext, first-lin}
@@ -27,26 +26,26 @@ pub record Stores (capacity : ℕ) (s : State) (st : Statement) (place x : ℕ) 
 abbrev k : State → ℕ
 k s = bits (s .ring)
 
-module _ {capacity : ℕ} {s : State} {x n at : ℕ} {words : List ℕ} {p : Written} (i : isIndex x ≡ true) (h : Holds p n at words) where
+module _ {capacity : ℕ} {s : State} {x : ℕ} {p : Written} where
   pub input-stores : Stores capacity s (input x p) inputs x [] (reduced (k s) p) 0 (bitOr (shows (k s) p) (s .seen)) false
-  input-stores = record { later = omega arith; refusing = tt; verdict = first-input capacity s x p i (h .ranged) (h .short); next = after-input s x p }
+  input-stores = record { later = omega arith; refusing = tt; verdict = first-input capacity s x p; next = after-input s x p }
 
-  pub ext-stores : {v : ℕ} → isVariable v ≡ true
+  pub ext-stores : {v : ℕ}
       → Stores capacity s (ext x v p) steps x (extRows (k s) (s .seen) v p) (extension (k s) v (reduced (k s) p)) (length (reduced (k s) p) * length (reduced (k s) p))
       (bitOr (bitOr (2 ^ v) (shows (k s) p)) (s .seen)) (s .reached || equal (extension (k s) v (reduced (k s) p)) (s .goal))
-  ext-stores {v} u = record {
+  ext-stores {v} = record {
     later = omega arith;
     refusing = (omega arith, (omega arith, (omega arith, tt)));
-    verdict = first-ext capacity s x v p i u (h .ranged) (h .short);
+    verdict = first-ext capacity s x v p;
     next = after-ext s x v p;
   }
 
-  pub lin-stores : {qs : List Pair} → PairsFit qs
+  pub lin-stores : {qs : List Pair}
       → Stores capacity s (lin x p qs) steps x (linRows (k s) (s .store) p qs) (reduced (k s) p) (productsOf (k s) (find (s .store)) qs)
       (bitOr (bitOr (shows (k s) p) (showsAll (k s) (factorsOf qs))) (s .seen)) (s .reached || equal (reduced (k s) p) (s .goal))
-  lin-stores {qs} q = record {
+  lin-stores {qs} = record {
     later = omega arith;
     refusing = (omega arith, (omega arith, (omega arith, tt)));
-    verdict = first-lin capacity s x p qs i (h .ranged) (h .short) q;
+    verdict = first-lin capacity s x p qs;
     next = after-lin s x p qs;
   }

@@ -11,7 +11,7 @@ use Rattle.limits.specs.Limits.{storedPolynomials, setWords}
 use Rattle.limits.specs.Verdicts.{ORDER, MISSING}
 use Rattle.words.specs.Words.{numberOf}
 use Rattle.terms.specs.Terms.{decode}
-use Rattle.paper.specs.Statement.{modulo, Statement, ring, del, isRing, isIndex}
+use Rattle.paper.specs.Statement.{modulo, Statement, ring, del, isRing}
 use Rattle.paper.specs.Rules.{first, Store, opening, inputs, steps, stored, Distinct, remove, start, rules}
 use Rattle.paper.proofs.Ranges.{ring-some, ring-most}
 use Rattle.paper.proofs.Store.{distinct-remove}
@@ -103,16 +103,16 @@ ringed s k = record {
   lines = s .lines + 1;
 }
 
-module _ {capacity : ℕ} {s : State} {pool scratch : List ℕ} {k : ℕ} (h : isRing (modulo k) ≡ true) where
+module _ {capacity : ℕ} {s : State} {pool scratch : List ℕ} {k : ℕ} where
   pub ring-misplaced : {r : Step} → (s .phase ≡ opening → ⊥) → (r .verdict ≡ ORDER) × (r .state ≡ s) → Stepped capacity (ring (modulo k)) s pool scratch r pool scratch
-  ring-misplaced n q = stepped-refused ORDER (λ z. omega (arith, z)) (first-ring capacity (stateOf s pool scratch) (modulo k) h ∙ order-refuses opening (s .phase) [] n) q refl
+  ring-misplaced n q = stepped-refused ORDER (λ z. omega (arith, z)) (first-ring capacity (stateOf s pool scratch) (modulo k) ∙ order-refuses opening (s .phase) [] n) q refl
 
-  pub ring-stands : {r : Step} → Room capacity s pool scratch → s .phase ≡ opening → (r .verdict ≡ 0) × (r .state ≡ ringed s k) → Stepped capacity (ring (modulo k)) s pool scratch r pool scratch
+  pub ring-stands : {r : Step} → isRing (modulo k) ≡ true → Room capacity s pool scratch → s .phase ≡ opening → (r .verdict ≡ 0) × (r .state ≡ ringed s k) → Stepped capacity (ring (modulo k)) s pool scratch r pool scratch
   unfolding first
-  ring-stands room z q =
+  ring-stands h room z q =
       let o = room .ready in
       told q (record {
-        verdict = first-ring capacity (stateOf s pool scratch) (modulo k) h ∙ order-passes opening (s .phase) [] z;
+        verdict = first-ring capacity (stateOf s pool scratch) (modulo k) ∙ order-passes opening (s .phase) [] z;
         next = λ _. sym (after-ring (stateOf s pool scratch) (modulo k));
         ready = λ _. record {
           fitting = o .fitting;
@@ -144,23 +144,23 @@ shrunk s t = record {
 }
 
 -- in its phase, by whether the index is stored
-del-verdict : (capacity : ℕ) (s : State) (pool scratch : List ℕ) (x : ℕ) → isIndex x ≡ true → s .phase ≡ steps → (b : Bool) → stored (storeOf (s .table) pool) x ≡ b
+del-verdict : (capacity : ℕ) (s : State) (pool scratch : List ℕ) (x : ℕ) → s .phase ≡ steps → (b : Bool) → stored (storeOf (s .table) pool) x ≡ b
     → first (rules capacity (stateOf s pool scratch) (del x)) ≡ first ((MISSING, not b) ∷ [])
-del-verdict capacity s pool scratch x h z b e =
-    first-del capacity (stateOf s pool scratch) x h ∙ order-passes steps (s .phase) ((MISSING, not (stored (storeOf (s .table) pool) x)) ∷ []) z
+del-verdict capacity s pool scratch x z b e =
+    first-del capacity (stateOf s pool scratch) x ∙ order-passes steps (s .phase) ((MISSING, not (stored (storeOf (s .table) pool) x)) ∷ []) z
     ∙ ap (λ (b : Bool). first ((MISSING, not b) ∷ [])) e
 
-module _ {capacity : ℕ} {s : State} {pool scratch : List ℕ} {x : ℕ} (h : isIndex x ≡ true) where
+module _ {capacity : ℕ} {s : State} {pool scratch : List ℕ} {x : ℕ} where
   pub del-misplaced : {r : Step} → (s .phase ≡ steps → ⊥) → (r .verdict ≡ ORDER) × (r .state ≡ s) → Stepped capacity (del x) s pool scratch r pool scratch
   del-misplaced n q =
       stepped-refused ORDER (λ z. omega (arith, z))
-      (first-del capacity (stateOf s pool scratch) x h ∙ order-refuses steps (s .phase) ((MISSING, not (stored (storeOf (s .table) pool) x)) ∷ []) n) q refl
+      (first-del capacity (stateOf s pool scratch) x ∙ order-refuses steps (s .phase) ((MISSING, not (stored (storeOf (s .table) pool) x)) ∷ []) n) q refl
 
   pub del-missing : {r : Step} → s .phase ≡ steps → Absent (s .table .indices) (s .table .stored) x → (r .verdict ≡ MISSING) × (r .state ≡ s)
       → Stepped capacity (del x) s pool scratch r pool scratch
   unfolding first
   del-missing z f q =
-      stepped-refused MISSING (λ z. omega (arith, z)) (del-verdict capacity s pool scratch x h z false (absent-stored (s .table .indices) (s .table .starts) (s .table .counts) pool (s .table .stored) x f)) q refl
+      stepped-refused MISSING (λ z. omega (arith, z)) (del-verdict capacity s pool scratch x z false (absent-stored (s .table .indices) (s .table .starts) (s .table .counts) pool (s .table .stored) x f)) q refl
 
   pub del-stands : (t : Table) (left : List ℕ) (j : ℕ) → Room capacity s pool scratch → s .phase ≡ steps → FirstAt (s .table .indices) (s .table .stored) x j
       → Forgotten (s .table) pool j t left → length left ≡ length pool → {r : Step} → (r .verdict ≡ 0) × (r .state ≡ shrunk s t)
@@ -170,7 +170,7 @@ module _ {capacity : ℕ} {s : State} {pool scratch : List ℕ} {x : ℕ} (h : i
       let o = room .ready in
       let q : storeOf t left ≡ remove (storeOf (s .table) pool) x = f .store x a in
       told w (record {
-        verdict = del-verdict capacity s pool scratch x h z true (found-stored (s .table .indices) (s .table .starts) (s .table .counts) pool (s .table .stored) x j a);
+        verdict = del-verdict capacity s pool scratch x z true (found-stored (s .table .indices) (s .table .starts) (s .table .counts) pool (s .table .stored) x j a);
         next = λ _. ap (λ (u : Store). record {
           phase = s .phase;
           ring = modulo (s .ring);

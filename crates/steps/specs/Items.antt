@@ -1,16 +1,15 @@
 -- What an item of a text says, as the code gives it, and what judging it leaves, whatever its syntax.
 use mathlib.Core.Path.{_≡_}
-use mathlib.Core.Bool.{Bool, true, false, not, cond}
-use mathlib.Core.List.{List, [], _∷_}
+use mathlib.Core.Bool.{true, false, cond}
+use mathlib.Core.List.{List}
 use Prim.Native.Nat.{ℕ, _+_}
 use lib.Dec.{leb}
 use lib.ListN.{length}
-use Rattle.ground.specs.Lists.{any}
-use Rattle.limits.specs.Verdicts.{ACCEPTED, LONGLINE, FORM, NUMBER, TERMS}
+use Rattle.limits.specs.Verdicts.{ACCEPTED, LONGLINE, FORM, TERMS}
 use Rattle.words.specs.Parts.{Within}
 use Rattle.paper.specs.Grammar.{Bytes, Read, got, stuck}
-use Rattle.paper.specs.Statement.{Written, Pair, modulo, Statement, ring, input, goal, lin, del, ext, fields, numbersInRange, tooManyTerms}
-use Rattle.paper.specs.Rules.{first, Store}
+use Rattle.paper.specs.Statement.{Written, Pair, modulo, Statement, ring, input, goal, lin, del, ext, numbersInRange}
+use Rattle.paper.specs.Rules.{Store}
 use Rattle.paper.specs.Answer.{stands, refused, indexOf, Item, judgeItem}
 use Rattle.written.specs.Worded.{Holds}
 use Rattle.scratch.specs.Scratch.{statedAt, goalAt}
@@ -22,13 +21,6 @@ use Rattle.steps.specs.declared.said.ItemRead.{ItemRead}
 use Rattle.steps.specs.declared.state.State.{State}
 use Rattle.steps.specs.declared.state.Step.{Step}
 use Rattle.steps.specs.State.{stateOf, Ready}
-
--- ---- verdicts on what is written: NUMBER where a number is out of its range, else TERMS where a field has too many terms
-abbrev pub verdictOf : Bool → Bool → ℕ
-verdictOf ranged few = first ((NUMBER, not ranged) ∷ (TERMS, not few) ∷ [])
-
-unfoldable pub fewInFields : Statement → Bool
-fewInFields st = not (any tooManyTerms (fields st))
 
 -- ---- what was said is the statement st; its polynomial, if it has one, stands in the stated region, and its pairs are summed over the store at k
 abbrev pub Stated : (Written → Statement) → ℕ → List ℕ → Statement → Type 0
@@ -43,13 +35,12 @@ Means k store words sum st (Del i) = st ≡ del i
 Means k store words sum st (Ext i v n) = Stated (ext i v) n words st
 Means k store words sum st (Refused why) = ⊥
 
--- ---- an item that is too long, one that cannot be read, one that NUMBER or TERMS refuses, and one that neither does
+-- ---- an item that is too long, one that cannot be read, one that is refused for what is written, and one that is not
 pub data Tells (k : ℕ) (store : Store) (i : Item) (words : List ℕ) (sum : Sum) (said : Said) : Type 0 where
   long : i .long ≡ true → said ≡ Refused LONGLINE → Tells k store i words sum said
   stops : i .long ≡ false → (r : Bytes) → i .reads ≡ stuck r → said ≡ Refused FORM → Tells k store i words sum said
-  turns : i .long ≡ false → (st : Statement) (r : Bytes) → i .reads ≡ got st r → said ≡ Refused (verdictOf (numbersInRange st) (fewInFields st))
-      → (verdictOf (numbersInRange st) (fewInFields st) ≡ ACCEPTED → ⊥) → Tells k store i words sum said
-  passes : i .long ≡ false → (st : Statement) (r : Bytes) → i .reads ≡ got st r → numbersInRange st ≡ true → fewInFields st ≡ true → Means k store words sum st said
+  turns : i .long ≡ false → (st : Statement) (r : Bytes) → i .reads ≡ got st r → said ≡ Refused (i .written) → (i .written ≡ ACCEPTED → ⊥) → Tells k store i words sum said
+  passes : i .long ≡ false → (st : Statement) (r : Bytes) → i .reads ≡ got st r → i .written ≡ ACCEPTED → numbersInRange st ≡ true → Means k store words sum st said
       → Tells k store i words sum said
 
 -- reading it leaves the goal's region and all behind it

@@ -2,7 +2,7 @@
 use sums::Sum;
 
 // A statement by its kind: its numbers, and how many terms its polynomial has, which stand in the stated region as they were written.
-// Or the number of the refusal: LONGLINE, FORM, NUMBER or TERMS, the first that applies.
+// Or the number of the refusal: LONGLINE, FORM, or one for what is written, the first that applies.
 pub enum Said {
     Ring(u32),
     Input(u32, usize),

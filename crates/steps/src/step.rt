@@ -4,7 +4,7 @@ ghost use mathlib.Core.Bool.{true};
 ghost use mathlib.Core.List.{List};
 ghost use Prim.Native.Nat.{ℕ, _≤_};
 ghost use Rattle.limits.specs.Limits.{textBytes};
-ghost use Rattle.paper.specs.Statement.{Written, Pair, modulo, ring, input, goal, lin, del, ext, isRing, isIndex, isVariable};
+ghost use Rattle.paper.specs.Statement.{Written, Pair, modulo, ring, input, goal, lin, del, ext, isRing, isVariable};
 ghost use Rattle.written.specs.Worded.{Holds};
 ghost use Rattle.table.specs.Table.{storeOf};
 ghost use Rattle.scratch.specs.Scratch.{statedAt};
@@ -47,7 +47,7 @@ impl State {
 
     // del index
     pub fn step_del(mut self, index: u32, pool: &mut [u64]) -> Step
-        requires { ⌜ (isIndex index ≡ true) × ((capacity : ℕ) × (scratch : List ℕ) × Room capacity self (now pool) scratch) ⌝ }
+        requires { ⌜ ((capacity : ℕ) × (scratch : List ℕ) × Room capacity self (now pool) scratch) ⌝ }
         ensures { λ r. ⌜
             ((capacity : ℕ) (scratch : List ℕ) → Room capacity self (now (pool .entry)) scratch
             → Stepped capacity (del index) self (now (pool .entry)) scratch r (now (pool .exit)) scratch)
@@ -86,7 +86,7 @@ impl State {
         scratch: &mut [u64],
         capacity: usize,
     ) -> Step
-        requires { ⌜ Room capacity self (now pool) (now scratch) × (isIndex index ≡ true) × ((p : Written) × Holds p n statedAt (now scratch)) ⌝ }
+        requires { ⌜ Room capacity self (now pool) (now scratch) × ((p : Written) × Holds p n statedAt (now scratch)) ⌝ }
         ensures { λ r. ⌜
             ((p : Written) → Holds p n statedAt (now (scratch .entry))
             → Stepped capacity (input index p) self (now (pool .entry)) (now (scratch .entry)) r (now (pool .exit)) (now (scratch .exit)))
@@ -159,7 +159,7 @@ impl State {
         scratch: &mut [u64],
         capacity: usize,
     ) -> Step
-        requires { ⌜ Room capacity self (now pool) (now scratch) × (isIndex index ≡ true) × ((p : Written) × Holds p n statedAt (now scratch)) × ((qs : List Pair) × Summed (self .ring) (storeOf (self .table) (now pool)) qs (now scratch) sum) ⌝ }
+        requires { ⌜ Room capacity self (now pool) (now scratch) × ((p : Written) × Holds p n statedAt (now scratch)) × ((qs : List Pair) × Summed (self .ring) (storeOf (self .table) (now pool)) qs (now scratch) sum) ⌝ }
         ensures { λ r. ⌜
             ((p : Written) → Holds p n statedAt (now (scratch .entry)) → (qs : List Pair) → Summed (self .ring) (storeOf (self .table) (now (pool .entry))) qs (now (scratch .entry)) sum
             → Stepped capacity (lin index p qs) self (now (pool .entry)) (now (scratch .entry)) r (now (pool .exit)) (now (scratch .exit)))
@@ -199,7 +199,7 @@ impl State {
         scratch: &mut [u64],
         capacity: usize,
     ) -> Step
-        requires { ⌜ Room capacity self (now pool) (now scratch) × (isIndex index ≡ true) × (isVariable v ≡ true) × ((p : Written) × Holds p n statedAt (now scratch)) ⌝ }
+        requires { ⌜ Room capacity self (now pool) (now scratch) × (isVariable v ≡ true) × ((p : Written) × Holds p n statedAt (now scratch)) ⌝ }
         ensures { λ r. ⌜
             ((p : Written) → Holds p n statedAt (now (scratch .entry))
             → Stepped capacity (ext index v p) self (now (pool .entry)) (now (scratch .entry)) r (now (pool .exit)) (now (scratch .exit)))

@@ -9,9 +9,8 @@ use lib.Bits.{bitOr, or-comm}
 use lib.Dec.{ltb}
 use lib.ListN.{length, drop, replicate}
 use borrow.Author.Tests.{ltb-true, lt-ltb, not-false}
-use Rattle.ground.specs.Lists.{every, any, total}
+use Rattle.ground.specs.Lists.{every, total}
 use Rattle.ground.proofs.Lists.{every-more}
-use Rattle.ground.proofs.Tests.{and-both, or-none-left, or-none-right}
 use Rattle.limits.specs.Limits.{lineProducts, setWords}
 use Rattle.limits.specs.Verdicts.{MISSING, PRODUCTS}
 use Rattle.algebra.specs.Polynomial.{Poly, products}
@@ -22,9 +21,8 @@ use Rattle.terms.specs.Terms.{decode, rounded}
 use Rattle.terms.proofs.Decode.{decode-below}
 use Rattle.terms.proofs.Rounding.{rounded-append}
 use Rattle.reduction.proofs.Reordered.{total-append}
-use Rattle.paper.specs.Statement.{Written, Pair, isIndex, inRange, tooManyTerms, reduced}
+use Rattle.paper.specs.Statement.{Written, Pair, reduced}
 use Rattle.paper.specs.Rules.{first, Store, stored, find, shows, showsAll, combination}
-use Rattle.written.specs.Worded.{Holds}
 use Rattle.table.specs.Table.{polyAt, storeOfColumns}
 use Rattle.table.specs.Columns.{Absent, FirstAt}
 use Rattle.table.proofs.Laws.{absent-stored, found-stored, found-find}
@@ -32,15 +30,14 @@ use Rattle.scratch.specs.Scratch.{statedAt, factorAt, goalAt, ReducedAt}
 use Rattle.scratch.specs.declared.Reduced.{Reduced}
 use Rattle.scratch.proofs.Keeping.{kept-factor}
 use Rattle.sums.specs.declared.Sum.{Sum}
-use Rattle.sums.specs.Sums.{indicesOf, factorsOf, PairsFit, productsOf, pairRows, Summed, Extended}
+use Rattle.sums.specs.Sums.{indicesOf, factorsOf, productsOf, pairRows, Summed, Extended}
 use Rattle.sums.proofs.Rows.{first-open}
 use Rattle.sums.proofs.Adding.{extended-as}
 
 -- ---- no pairs
 pub summed-none : {k : ℕ} {store : Store} {scratch : List ℕ} {sum : Sum} → sum ≡ record { verdict = 0; terms = 0; seen = replicate setWords 0 } → Summed k store [] scratch sum
-unfolding first productsOf combination showsAll every any total decode rounded numberOf
+unfolding first productsOf combination showsAll every total decode rounded numberOf
 summed-none {k} {store} {scratch} e = subst (Summed k store [] scratch) (sym e) (record {
-  ranged = record { indices = refl; factors = refl; short = refl };
   verdict = refl;
   count = λ _. refl;
   most = λ _. omega arith;
@@ -51,7 +48,6 @@ summed-none {k} {store} {scratch} e = subst (Summed k store [] scratch) (sym e) 
 -- the sum stays where a change leaves the products
 pub summed-kept : {k : ℕ} {store : Store} {qs : List Pair} {s r : List ℕ} {sum : Sum} (a e : ℕ) → Within a e s r → statedAt ≤ a → Summed k store qs s sum → Summed k store qs r sum
 summed-kept {s = s} {r} {sum} a e w l u = record {
-  ranged = u .ranged;
   verdict = u .verdict;
   count = u .count;
   most = u .most;
@@ -60,11 +56,6 @@ summed-kept {s = s} {r} {sum} a e w l u = record {
 }
 
 -- ---- one item more
-any-more : {A : Type 0} (f : A → Bool) (xs : List A) (x : A) → any f xs ≡ false → f x ≡ false → any f (xs ++ (x ∷ [])) ≡ false
-unfolding any
-any-more f [] x e h = rw h
-any-more f (y ∷ xs) x e h = rw (or-none-left (f y) (any f xs) e) (any-more f xs x (or-none-right (f y) (any f xs) e) h)
-
 shows-more : (k : ℕ) (ps : List Written) (p : Written) → showsAll k (ps ++ (p ∷ [])) ≡ bitOr (shows k p) (showsAll k ps)
 unfolding showsAll
 shows-more k [] p = refl
@@ -87,7 +78,7 @@ module _ (k : ℕ) (named : ℕ → Poly) where
       ∙ ap (λ (m : ℕ). productsOf k named qs + m) (add-zero (length (reduced k (q .factor)) * length (named (q .index))))
 
 -- ---- one pair more
-module _ {k : ℕ} {store : Store} {qs : List Pair} {s : List ℕ} {old : Sum} (index f : ℕ) (w : Written) (i : isIndex index ≡ true) (h : Holds w f factorAt s) (a : Summed k store qs s old) where
+module _ {k : ℕ} {store : Store} {qs : List Pair} {s : List ℕ} {old : Sum} (index : ℕ) (w : Written) (a : Summed k store qs s old) where
   abbrev q : Pair
   q = record { index = index; factor = w }
 
@@ -100,13 +91,6 @@ module _ {k : ℕ} {store : Store} {qs : List Pair} {s : List ℕ} {old : Sum} (
   factors-more : factorsOf more ≡ factorsOf qs ++ (w ∷ [])
   factors-more = map-append (λ q. q .factor) qs (q ∷ [])
 
-  ranged : PairsFit more
-  ranged = record {
-    indices = ap (every isIndex) indices-more ∙ every-more isIndex (indicesOf qs) index ∙ and-both _ _ (a .ranged .indices) i;
-    factors = ap (every inRange) factors-more ∙ every-more inRange (factorsOf qs) w ∙ and-both _ _ (a .ranged .factors) (h .ranged);
-    short = ap (any tooManyTerms) factors-more ∙ any-more tooManyTerms (factorsOf qs) w (a .ranged .short) (h .short);
-  }
-
   all-more : (b : Bool) → stored store index ≡ b → every (stored store) (indicesOf more) ≡ (every (stored store) (indicesOf qs) && b)
   all-more b e = ap (every (stored store)) indices-more ∙ every-more (stored store) (indicesOf qs) index ∙ ap (λ (x : Bool). every (stored store) (indicesOf qs) && x) e
 
@@ -116,7 +100,6 @@ module _ {k : ℕ} {store : Store} {qs : List Pair} {s : List ℕ} {old : Sum} (
   -- refused, for one reason or the other
   refused : {r : List ℕ} {sum : Sum} → (sum .verdict ≡ 0 → ⊥) → sum .verdict ≡ first (pairRows k store more) → Summed k store more r sum
   refused n e = record {
-    ranged = ranged;
     verdict = e;
     count = λ z. absurd (n z);
     most = λ z. absurd (n z);
@@ -156,7 +139,6 @@ module _ {k : ℕ} {store : Store} {qs : List Pair} {s : List ℕ} {old : Sum} (
     summed-more : old .verdict ≡ 0 → {r : List ℕ} {sum : Sum} → Extended (reduced k w) (find store index) (shows k w) old s r sum → Summed k store more r sum
     unfolding first
     summed-more z {r} {sum} x = record {
-      ranged = ranged;
       verdict = x .verdict ∙ sym (ap₂ rowsOf (present ∙ all) (ap (ltb lineProducts) counted));
       count = λ y. x .count y ∙ sym counted;
       most = x .most;
@@ -179,19 +161,19 @@ module _ (indices starts counts pool : List ℕ) (n index : ℕ) where
   abbrev store′ : Store
   store′ = storeOfColumns indices starts counts pool n
 
-  module _ {k : ℕ} {qs : List Pair} {s : List ℕ} {old : Sum} (f : ℕ) (w : Written) (i : isIndex index ≡ true) (h : Holds w f factorAt s) (a : Summed k store′ qs s old) where
+  module _ {k : ℕ} {qs : List Pair} {s : List ℕ} {old : Sum} (w : Written) (a : Summed k store′ qs s old) where
     pub factor-missing : Absent indices n index → {r : List ℕ} {sum : Sum} → sum ≡ record { verdict = MISSING; terms = 0; seen = replicate setWords 0 }
         → Summed k store′ (qs ++ (record { index = index; factor = w } ∷ [])) r sum
-    factor-missing o e = summed-missing index f w i h a (absent-stored indices starts counts pool n index o) e
+    factor-missing o e = summed-missing index w a (absent-stored indices starts counts pool n index o) e
 
     module _ {j : ℕ} (o : FirstAt indices n index j) where
       pub factor-stopped : (old .verdict ≡ 0 → ⊥) → Summed k store′ (qs ++ (record { index = index; factor = w } ∷ [])) s old
-      factor-stopped v = summed-stopped index f w i h a (found-stored indices starts counts pool n index j o) v
+      factor-stopped v = summed-stopped index w a (found-stored indices starts counts pool n index j o) v
 
       pub factor-added : {y r : List ℕ} {d : Reduced} {sum : Sum} → old .verdict ≡ 0 → ReducedAt k w factorAt s y d
           → Extended (decode (d .terms) (drop factorAt y)) (polyAt starts counts pool j) (numberOf (d .shown)) old y r sum
           → Summed k store′ (qs ++ (record { index = index; factor = w } ∷ [])) r sum
       factor-added {y} v d x =
-          summed-more index f w i h a (found-stored indices starts counts pool n index j o) v
+          summed-more index w a (found-stored indices starts counts pool n index j o) v
           (extended-as (d .at .run) (sym (found-find indices starts counts pool n index j o)) (d .shown)
           (decode-below (old .terms) factorAt goalAt s y (d .at .within) (omega (arith, a .most v))) (kept-factor s y (d .at .within)) x)

@@ -1,18 +1,18 @@
 -- The pairs of a lin line: which polynomials they name, and the sum of factor times named polynomial.
 use mathlib.Core.Path.{_≡_}
-use mathlib.Core.Bool.{true, false, not}
+use mathlib.Core.Bool.{not}
 use mathlib.Core.List.{List, [], _∷_, _++_, map}
 use Prim.Native.Nat.{ℕ, _+_, _*_, _≤_, _<_}
 use lib.Bits.{bitOr}
 use lib.Dec.{ltb}
 use lib.ListN.{length, getD}
-use Rattle.ground.specs.Lists.{every, any, total}
+use Rattle.ground.specs.Lists.{every, total}
 use Rattle.limits.specs.Limits.{storedPolynomials, lineProducts, termWords, mostPoolTerms}
 use Rattle.limits.specs.Verdicts.{MISSING, PRODUCTS}
 use Rattle.algebra.specs.Polynomial.{Poly, products}
 use Rattle.words.specs.Words.{numberOf}
 use Rattle.terms.specs.Terms.{decode, rounded}
-use Rattle.paper.specs.Statement.{Written, Pair, isIndex, inRange, tooManyTerms, reduced}
+use Rattle.paper.specs.Statement.{Written, Pair, reduced}
 use Rattle.paper.specs.Rules.{first, Store, stored, find, showsAll, combination}
 use Rattle.table.specs.Table.{PackedColumns}
 use Rattle.scratch.specs.Scratch.{Kept}
@@ -30,12 +30,6 @@ indicesOf qs = map (λ q. q .index) qs
 abbrev pub factorsOf : List Pair → List Written
 factorsOf qs = map (λ q. q .factor) qs
 
--- neither NUMBER nor TERMS refuses them
-pub record PairsFit (qs : List Pair) : Type 0 where
-  pub indices : every isIndex (indicesOf qs) ≡ true
-  pub factors : every inRange (factorsOf qs) ≡ true
-  pub short : any tooManyTerms (factorsOf qs) ≡ false
-
 -- the factors' terms times those of the named polynomials, added
 unfoldable pub productsOf : ℕ → (ℕ → Poly) → List Pair → ℕ
 productsOf k named qs = total (λ q. length (reduced k (q .factor)) * length (named (q .index))) qs
@@ -49,7 +43,6 @@ pairRows k store qs =
 
 -- refused, or all products from word 0 on, rounded as words hold them
 pub record Summed (k : ℕ) (store : Store) (qs : List Pair) (scratch : List ℕ) (sum : Sum) : Type 0 where
-  pub ranged : PairsFit qs
   pub verdict : sum .verdict ≡ first (pairRows k store qs)
   pub count : sum .verdict ≡ 0 → sum .terms ≡ productsOf k (find store) qs
   pub most : sum .verdict ≡ 0 → sum .terms ≤ lineProducts

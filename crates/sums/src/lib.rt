@@ -1,6 +1,5 @@
 // The sum of a lin line, pair by pair: whether the pairs name stored polynomials, and the products of their factors with these.
 ghost use mathlib.Core.Path.{_≡_};
-ghost use mathlib.Core.Bool.{true};
 ghost use mathlib.Core.List.{List, [], _∷_, _++_};
 ghost use Prim.Native.Nat.{ℕ, _+_, _*_, _≤_, _<_};
 ghost use lib.ListN.{length, drop, replicate};
@@ -8,7 +7,7 @@ ghost use Rattle.limits.specs.Limits.{fieldTerms, lineProducts, setWords, termW
 ghost use Rattle.algebra.specs.Polynomial.{products};
 ghost use Rattle.words.specs.Words.{numberOf};
 ghost use Rattle.terms.specs.Terms.{decode, rounded, Appended};
-ghost use Rattle.paper.specs.Statement.{Written, Pair, isIndex};
+ghost use Rattle.paper.specs.Statement.{Written, Pair};
 ghost use Rattle.paper.specs.Rules.{Store};
 ghost use Rattle.written.specs.Worded.{Holds};
 ghost use Rattle.table.specs.Table.{polyAt, storeOfColumns};
@@ -116,7 +115,7 @@ pub fn add_factor(
 ) -> Sum
     requires { ⌜
         PoolHolds (now starts) (now counts) n (now pool) × (0 < n → (1 ≤ k) × (k ≤ 64)) × (leastScratch ≤ length (now scratch))
-        × (isIndex index ≡ true) × ((w : Written) × Holds w f factorAt (now scratch))
+        × ((w : Written) × Holds w f factorAt (now scratch))
         × ((qs : List Pair) × Summed k (storeOfColumns (now indices) (now starts) (now counts) (now pool) n) qs (now scratch) sum)
         ⌝ }
     ensures summed { λ r. ⌜

@@ -30,7 +30,7 @@ returns c =
     let f = c .before .before .before in
     let b = begin f in
     let a = b .args in (
-      (λ w h qs s. factor-missing (a .indices .now) (a .starts .now) (a .counts .now) (a .pool .now) (a .n) (a .index) (a .f) w (b .pre .3) h s (found-nothing (c .before .enum-told .given .1) (f .find .ensures)) (c .refusal .ensures)),
+      (λ w h qs s. factor-missing (a .indices .now) (a .starts .now) (a .counts .now) (a .pool .now) (a .n) (a .index) w s (found-nothing (c .before .enum-told .given .1) (f .find .ensures)) (c .refusal .ensures)),
       kept-refl,
     )
 
@@ -39,7 +39,7 @@ returns-2 c =
     let d = c .before in
     let b = begin (found d) in
     let a = b .args in (
-      (λ w h qs s. factor-stopped (a .indices .now) (a .starts .now) (a .counts .now) (a .pool .now) (a .n) (a .index) (a .f) w (b .pre .3) h s (first d) (c .if1 .taken)),
+      (λ w h qs s. factor-stopped (a .indices .now) (a .starts .now) (a .counts .now) (a .pool .now) (a .n) (a .index) w s (first d) (c .if1 .taken)),
       kept-refl,
     )
 
@@ -48,7 +48,7 @@ reduce-field-requires c κs =
     let d = c .before .before in
     let b = begin (found d) in
     let k = ringed d in
-    (b .pre .4, omega (arith, b .pre .2), k .0, k .1)
+    (b .pre .3, omega (arith, b .pre .2), k .0, k .1)
 
 add-products-requires : tie.Need-add-products-requires
 add-products-requires c κs =
@@ -57,8 +57,8 @@ add-products-requires c κs =
     let d = i .before in
     let b = begin (found d) in
     let a = b .args in
-    let f = r .reduce-field .ensures (b .pre .4 .0) (b .pre .4 .1) .at in
-    (place-lies (a .starts .now) (a .counts .now) (a .pool .now) (a .n) _ (b .pre .0) (first d .inside), f .few, b .pre .5 .1 .most (i .if1 .left), omega (arith, b .pre .2, f .within .same))
+    let f = r .reduce-field .ensures (b .pre .3 .0) (b .pre .3 .1) .at in
+    (place-lies (a .starts .now) (a .counts .now) (a .pool .now) (a .n) _ (b .pre .0) (first d .inside), f .few, b .pre .4 .1 .most (i .if1 .left), omega (arith, b .pre .2, f .within .same))
 
 returns-3 : tie.Need-returns-3
 returns-3 c =
@@ -68,8 +68,8 @@ returns-3 c =
     let d = i .before in
     let b = begin (found d) in
     let a = b .args in
-    let f = r .reduce-field .ensures (b .pre .4 .0) (b .pre .4 .1) .at in (
-      (λ w h qs s. factor-added (a .indices .now) (a .starts .now) (a .counts .now) (a .pool .now) (a .n) (a .index) (a .f) w (b .pre .3) h s (first d) (i .if1 .left) (r .reduce-field .ensures w h) (m .add-products .ensures)),
+    let f = r .reduce-field .ensures (b .pre .3 .0) (b .pre .3 .1) .at in (
+      (λ w h qs s. factor-added (a .indices .now) (a .starts .now) (a .counts .now) (a .pool .now) (a .n) (a .index) w s (first d) (i .if1 .left) (r .reduce-field .ensures w h) (m .add-products .ensures)),
       kept-trans (kept-factor _ _ (f .within)) (m .add-products .ensures .kept),
     )
 

@@ -12,7 +12,7 @@ use Rattle.steps.specs.Stepped.{Room}
 use Rattle.steps.specs.Items.{ItemJudged}
 use Rattle.checker.specs.Checked.{lineAt}
 use Rattle.steps.proofs.Calling.{ready-reads}
-use Rattle.steps.proofs.Asking.{ask-ring, ask-input, ask-goal, ask-lin, ask-del, ask-ext}
+use Rattle.steps.proofs.Asking.{ask-ring, ask-input, ask-goal, ask-lin, ask-ext}
 use Rattle.steps.proofs.Judging.{judged-ring, judged-input, judged-goal, judged-lin, judged-del, judged-ext, judged-refused}
 use Rattle.checker.proofs.Running.{Going, going-start, onward-room, going-more, goes, going-asks, going-end}
 use Rattle.checker.proofs.run.run.Statement.{statement}
@@ -145,7 +145,7 @@ step-del-requires : tie.Need-step-del-requires Inv-loop μ-loop
 step-del-requires c κs =
     let s = c .before .before .before in
     let z = s .before .before in
-    ask-del (z .before .before .read-line .ensures) (s .said5 .given .1) (room (ended z))
+    (_, _, room (ended z))
 
 loop-less-5 : tie.Need-loop-less-5 Inv-loop μ-loop
 loop-less-5 c = less (ended (c .before .before .before .before .before .before .before .before))

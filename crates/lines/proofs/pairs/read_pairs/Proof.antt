@@ -87,7 +87,7 @@ add-factor-requires c κs =
     let w = l .loop .inv in
     let p = r .read-pair .ensures in
     let x = pairs-ask (w .0) (turn-tab (turn r)) (r .read-pair .result) (part-took (p .part) (g .before .if3 .left)) (g .lesser .ensures) (c .before .if4 .taken) (p .kept) in
-    (b .pre .1, b .pre .2, omega (arith, b .pre .3, w .1 .same, p .kept .same), x .0, x .1, x .2)
+    (b .pre .1, b .pre .2, omega (arith, b .pre .3, w .1 .same, p .kept .same), x .0, x .1)
 
 loop-again : tie.Need-loop-again Inv-loop μ-loop
 loop-again c =

@@ -14,7 +14,7 @@ returns c =
     let d = c .before .before .decimal-at in
     let a = c .before .before .before .before .args in
     rw (c .outside .ensures)
-    (number-refused (a .low) (a .high) (a .s .now) (a .at) (omega arith) (d .result) (d .ensures)
+    (number-refused decimal (a .low) (a .high) (a .s .now) (a .at) (omega arith) (d .result) (d .ensures)
     (λ v e q. ⊎-elim (λ p. absurd (let z : ⊥ = omega arith in z)) (λ p. absurd (let z : ⊥ = omega arith in z)) (rw q at (c .before .match .keys2))))
 
 returns-2 : tie.Need-returns-2

@@ -25,21 +25,21 @@ abbrev start : tie.After-known-told → tie.Start
 start c = begin (stood (found c))
 
 returns : tie.Need-returns
-returns c = λ capacity scratch room. del-misplaced (c .before .before .before .pre .0) (c .before .if1 .taken) (c .with-verdict .ensures)
+returns c = λ capacity scratch room. del-misplaced (c .before .if1 .taken) (c .with-verdict .ensures)
 
 returns-2 : tie.Need-returns-2
 returns-2 c =
     let f = c .before .before .before in
     let b = begin (stood f) in
-    λ capacity scratch room. del-missing (b .pre .0) (stood f .if1 .left) (found-nothing (c .before .enum-told .given .1) (f .find .ensures)) (c .with-verdict2 .ensures)
+    λ capacity scratch room. del-missing (stood f .if1 .left) (found-nothing (c .before .enum-told .given .1) (f .find .ensures)) (c .with-verdict2 .ensures)
 
 long : (c : tie.Start) → Long (c .args .t1 .table)
 long c =
     let g = c .good .0 .1 .1 .1 .1 .0 .1 .1 in
     (search (needs, g .0), search (needs, g .1 .0), search (needs, g .1 .1 .0))
 
-ready : (c : tie.After-known-told) → let b = start c in Ready (b .pre .1 .0) (b .args .t1) (b .args .pool .now) (b .pre .1 .1)
-ready c = start c .pre .1 .2 .ready
+ready : (c : tie.After-known-told) → let b = start c in Ready (b .pre .0) (b .args .t1) (b .args .pool .now) (b .pre .1)
+ready c = start c .pre .2 .ready
 
 -- where the index was found
 first : (c : tie.After-known-told) → let b = start c in FirstAt (b .args .t1 .table .indices) (b .args .t1 .table .stored) (b .args .index) (c .before .found .given .0 .0)
@@ -99,7 +99,7 @@ returns-3 c =
     let n = t .before .before in
     let k = n .before .before in
     let b = start k in
-    λ capacity scratch room. del-stands (b .pre .0) _ _ _ room (stood (found k) .if1 .left) (first k)
+    λ capacity scratch room. del-stands _ _ _ room (stood (found k) .if1 .left) (first k)
     (forgotten (b .args .t1 .table) (b .args .pool .now) _ _ _ _ _ _ _ (room .ready .fitting .packed) (first k .inside) (omega (arith, room .ready .fitting .room, room .ready .fitting .words))
     (t .close-starts .ensures .0) (n .close-counts .ensures .0) (i .close-indices .ensures) (t .close-starts .ensures .1) (n .close-counts .ensures .1) (g .close-gap .ensures))
     (search needs) (c .stands .ensures)

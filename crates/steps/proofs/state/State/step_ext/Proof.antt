@@ -45,7 +45,7 @@ long c =
     (search (needs, g .0), search (needs, g .1 .0), search (needs, g .1 .1 .0))
 
 sizes : (c : tie.After-extend) → Sized (begin (admitted c) .args .scratch .now) (c .extend .last .0) (c .extend .result)
-sizes c = let p = begin (admitted c) .pre in sized (c .extend .ensures (p .3 .0) (p .3 .1))
+sizes c = let p = begin (admitted c) .pre in sized (c .extend .ensures (p .2 .0) (p .2 .1))
 
 fits : (c : tie.Else2) → let m = made (kept c) in Entering (begin (admitted m) .args .self) (m .extend .last .0) (m .extend .result)
 fits c =
@@ -58,7 +58,7 @@ extend-requires c κs =
     let e = c .before .before in
     let b = begin e in
     let k = admitted-ring steps (b .args .self) (b .args .index) (e .before .admit .ensures) (e .if1 .left) (b .pre .0) (omega arith) in
-    (b .pre .3, below (b .args .v) (b .pre .2), b .pre .0 .ready .room, k .0, k .1)
+    (b .pre .2, below (b .args .v) (b .pre .1), b .pre .0 .ready .room, k .0, k .1)
 
 append-to-pool-requires : tie.Need-append-to-pool-requires
 append-to-pool-requires c κs = let m = c .before .before .before .before in ask-append (begin (admitted m) .pre .0) (sizes m)
@@ -67,7 +67,7 @@ returns : tie.Need-returns
 returns c =
     let m = c .before .before in
     let b = m .before .before .before .before .before in
-    λ p h. unadmitted (ext-stores (b .pre .1) h (b .pre .2)) (m .admit .ensures) (c .before .if1 .taken) (c .with-verdict .ensures)
+    λ p h. unadmitted ext-stores (m .admit .ensures) (c .before .if1 .taken) (c .with-verdict .ensures)
 
 returns-2 : tie.Need-returns-2
 returns-2 c =
@@ -75,7 +75,7 @@ returns-2 c =
     let m = made k in
     let e = admitted m in
     let b = begin e in
-    λ p h. halts (ext-stores (b .pre .1) h (b .pre .2)) (e .before .admit .ensures) (e .if1 .left) (b .pre .0) (m .extend .ensures p h) (k .append-to-pool .ensures)
+    λ p h. halts ext-stores (e .before .admit .ensures) (e .if1 .left) (b .pre .0) (m .extend .ensures p h) (k .append-to-pool .ensures)
     (c .before .if2 .taken) (c .with-verdict2 .ensures)
 
 returns-3 : tie.Need-returns-3
@@ -87,7 +87,7 @@ returns-3 c =
     let e = admitted m in
     let b = begin e in
     let a = b .args .self in
-    λ p h. enters (ext-stores (b .pre .1) h (b .pre .2)) (e .before .admit .ensures) (e .if1 .left) (b .pre .0) (m .extend .ensures p h) (k .append-to-pool .ensures)
+    λ p h. enters ext-stores (e .before .admit .ensures) (e .if1 .left) (b .pre .0) (m .extend .ensures p h) (k .append-to-pool .ensures)
     (i .if2 .left) (long b) (n .before .before .before .before .before .put-index .ensures) (n .before .before .before .put-start .ensures) (n .put-count .ensures)
     (reached-too (a .reached) (a .«goal_terms») (m .extend .ensures p h) (fits i .accepted) (c .before .reaches .ensures)) refl (c .stands .ensures)
 

@@ -15,7 +15,7 @@ abbrev field : tie.After-copy-to-goal → tie.After-reduce-field
 field c = c .before .before .before .before
 
 returns : tie.Need-returns
-returns c = λ capacity room p h. goal-misplaced h (c .before .if1 .taken) (c .with-verdict .ensures)
+returns c = λ capacity room p h. goal-misplaced (c .before .if1 .taken) (c .with-verdict .ensures)
 
 reduce-field-requires : tie.Need-reduce-field-requires
 reduce-field-requires c κs =
@@ -48,7 +48,7 @@ returns-2 c =
     let g = s .before .before .before .before .before .before .before .before in
     let f = field g in
     let b = begin (stood f) in
-    λ capacity room p h. goal-stands h room (stood f .if1 .left) (f .reduce-field .ensures p h) (g .copy-to-goal .ensures) (u .union .ensures)
+    λ capacity room p h. goal-stands room (stood f .if1 .left) (f .reduce-field .ensures p h) (g .copy-to-goal .ensures) (u .union .ensures)
     (s .is-stored .ensures (b .args .t1 .table .indices)) (c .stands .ensures)
 
 pub step-goal-spec : {M : Type 1} → statement M

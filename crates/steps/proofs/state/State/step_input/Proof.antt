@@ -44,7 +44,7 @@ made c = record { verdict = 0; terms = field c .reduce-field .result .terms; pro
 sizes : (c : tie.After-union) → Sized (begin (admitted (field c)) .args .scratch .now) (field c .reduce-field .last .0) (made c)
 sizes c =
     let b = begin (admitted (field c)) in
-    sized (input-candidate (b .args .self .seen) (c .union .result) (field c .reduce-field .ensures (b .pre .2 .0) (b .pre .2 .1)) (c .union .ensures))
+    sized (input-candidate (b .args .self .seen) (c .union .result) (field c .reduce-field .ensures (b .pre .1 .0) (b .pre .1 .1)) (c .union .ensures))
 
 fits : (c : tie.Else2) → let u = united (kept c) in Entering (begin (admitted (field u)) .args .self) (field u .reduce-field .last .0) (made u)
 fits c =
@@ -57,7 +57,7 @@ reduce-field-requires c κs =
     let e = c .before in
     let b = begin e in
     let k = admitted-ring inputs (b .args .self) (b .args .index) (e .before .admit .ensures) (e .if1 .left) (b .pre .0) (omega arith) in
-    (b .pre .2, omega (arith, b .pre .0 .ready .room), k .0, k .1)
+    (b .pre .1, omega (arith, b .pre .0 .ready .room), k .0, k .1)
 
 append-to-pool-requires : tie.Need-append-to-pool-requires
 append-to-pool-requires c κs = let u = c .before .before in ask-append (begin (admitted (field u)) .pre .0) (sizes u)
@@ -65,7 +65,7 @@ append-to-pool-requires c κs = let u = c .before .before in ask-append (begin (
 returns : tie.Need-returns
 returns c =
     let m = c .before .before in
-    λ p h. unadmitted (input-stores (m .before .before .before .before .before .pre .1) h) (m .admit .ensures) (c .before .if1 .taken) (c .with-verdict .ensures)
+    λ p h. unadmitted input-stores (m .admit .ensures) (c .before .if1 .taken) (c .with-verdict .ensures)
 
 returns-2 : tie.Need-returns-2
 returns-2 c =
@@ -74,7 +74,7 @@ returns-2 c =
     let f = field u in
     let e = admitted f in
     let b = begin e in
-    λ p h. halts (input-stores (b .pre .1) h) (e .before .admit .ensures) (e .if1 .left) (b .pre .0)
+    λ p h. halts input-stores (e .before .admit .ensures) (e .if1 .left) (b .pre .0)
     (input-candidate (b .args .self .seen) (u .union .result) (f .reduce-field .ensures p h) (u .union .ensures)) (k .append-to-pool .ensures) (c .before .if2 .taken) (c .with-verdict2 .ensures)
 
 returns-3 : tie.Need-returns-3
@@ -86,7 +86,7 @@ returns-3 c =
     let f = field u in
     let e = admitted f in
     let b = begin e in
-    λ p h. enters (input-stores (b .pre .1) h) (e .before .admit .ensures) (e .if1 .left) (b .pre .0)
+    λ p h. enters input-stores (e .before .admit .ensures) (e .if1 .left) (b .pre .0)
     (input-candidate (b .args .self .seen) (u .union .result) (f .reduce-field .ensures p h) (u .union .ensures)) (k .append-to-pool .ensures) (i .if2 .left) (long b)
     (n .before .before .before .before .before .put-index .ensures) (n .before .before .before .put-start .ensures) (n .put-count .ensures) refl (omega arith) (c .stands .ensures)
 

@@ -36,7 +36,7 @@ long c =
     (search (needs, g .0), search (needs, g .1 .0), search (needs, g .1 .1 .0))
 
 sizes : (c : tie.After-check-sum) → Sized (begin (admitted c) .args .scratch .now) (c .check-sum .last .0) (c .check-sum .result)
-sizes c = let p = begin (admitted c) .pre in sized (c .check-sum .ensures (p .2 .0) (p .2 .1) _ (p .3 .0) (p .3 .1))
+sizes c = let p = begin (admitted c) .pre in sized (c .check-sum .ensures (p .1 .0) (p .1 .1) _ (p .2 .0) (p .2 .1))
 
 fits : (c : tie.Else2) → let m = made (kept c) in Entering (begin (admitted m) .args .self) (m .check-sum .last .0) (m .check-sum .result)
 fits c =
@@ -49,7 +49,7 @@ check-sum-requires c κs =
     let e = c .before .before in
     let b = begin e in
     let k = admitted-ring steps (b .args .self) (b .args .index) (e .before .admit .ensures) (e .if1 .left) (b .pre .0) (omega arith) in
-    (b .pre .2, (_, b .pre .3 .0, b .pre .3 .1), b .pre .0 .ready .room, k .0, k .1)
+    (b .pre .1, (_, b .pre .2 .0, b .pre .2 .1), b .pre .0 .ready .room, k .0, k .1)
 
 append-to-pool-requires : tie.Need-append-to-pool-requires
 append-to-pool-requires c κs = let m = c .before .before .before .before in ask-append (begin (admitted m) .pre .0) (sizes m)
@@ -57,7 +57,7 @@ append-to-pool-requires c κs = let m = c .before .before .before .before in ask
 returns : tie.Need-returns
 returns c =
     let m = c .before .before in
-    λ p h qs s. unadmitted (lin-stores (m .before .before .before .before .before .pre .1) h (s .ranged)) (m .admit .ensures) (c .before .if1 .taken) (c .with-verdict .ensures)
+    λ p h qs s. unadmitted lin-stores (m .admit .ensures) (c .before .if1 .taken) (c .with-verdict .ensures)
 
 returns-2 : tie.Need-returns-2
 returns-2 c =
@@ -65,7 +65,7 @@ returns-2 c =
     let m = made k in
     let e = admitted m in
     let b = begin e in
-    λ p h qs s. halts (lin-stores (b .pre .1) h (s .ranged)) (e .before .admit .ensures) (e .if1 .left) (b .pre .0) (m .check-sum .ensures p h _ qs s) (k .append-to-pool .ensures)
+    λ p h qs s. halts lin-stores (e .before .admit .ensures) (e .if1 .left) (b .pre .0) (m .check-sum .ensures p h _ qs s) (k .append-to-pool .ensures)
     (c .before .if2 .taken) (c .with-verdict2 .ensures)
 
 returns-3 : tie.Need-returns-3
@@ -77,7 +77,7 @@ returns-3 c =
     let e = admitted m in
     let b = begin e in
     let a = b .args .self in
-    λ p h qs s. enters (lin-stores (b .pre .1) h (s .ranged)) (e .before .admit .ensures) (e .if1 .left) (b .pre .0) (m .check-sum .ensures p h _ qs s) (k .append-to-pool .ensures)
+    λ p h qs s. enters lin-stores (e .before .admit .ensures) (e .if1 .left) (b .pre .0) (m .check-sum .ensures p h _ qs s) (k .append-to-pool .ensures)
     (i .if2 .left) (long b) (n .before .before .before .before .before .put-index .ensures) (n .before .before .before .put-start .ensures) (n .put-count .ensures)
     (reached-too (a .reached) (a .«goal_terms») (m .check-sum .ensures p h _ qs s) (fits i .accepted) (c .before .reaches .ensures)) refl (c .stands .ensures)
 

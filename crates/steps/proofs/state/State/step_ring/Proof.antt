@@ -5,7 +5,7 @@ use Rattle.steps.proofs.state.State.step_ring.Statement.{statement}
 use Rattle.steps.proofs.state.State.step_ring.Tie as tie
 
 returns : tie.Need-returns
-returns c = λ capacity pool scratch room. ring-misplaced (c .before .before .before .pre .0) (c .before .if1 .taken) (c .with-verdict .ensures)
+returns c = λ capacity pool scratch room. ring-misplaced (c .before .if1 .taken) (c .with-verdict .ensures)
 
 returns-2 : tie.Need-returns-2
 returns-2 c = λ capacity pool scratch room. ring-stands (c .before .before .before .pre .0) room (c .before .if1 .left) (c .stands .ensures)
