@@ -1,6 +1,8 @@
 //! A checker written from the rule paper alone, with ordinary containers: what the proved one is compared with.
 
+mod grammar;
 mod polynomial;
+mod published;
 mod statement;
 
 use polynomial::{add, add_product, holds, reduced, single, Poly};
@@ -8,9 +10,14 @@ use statement::{statement, Decimal, Statement, Written};
 use std::collections::{HashMap, HashSet};
 use std::fmt;
 
+pub use published::{check_published, numbered_names};
+
 /// The room that the host call and the check program have, in words.
 pub const POOL: usize = 8_000;
 pub const SCRATCH: usize = 6_560;
+
+/// The longest text that is checked; the host call and the check program take less.
+pub const TEXT_BYTES: usize = 1_048_576;
 
 pub const SHORT: u64 = 1;
 pub const LONGTEXT: u64 = 2;
@@ -28,6 +35,7 @@ pub const NOTBIT: u64 = 13;
 pub const FULL: u64 = 14;
 pub const NOGOAL: u64 = 15;
 pub const NOTREACHED: u64 = 16;
+pub const NAMES: u64 = 17;
 
 /// The six numbers of an answer.
 #[derive(Clone, Copy, Debug, Default, PartialEq, Eq)]
@@ -69,7 +77,32 @@ struct State {
     products: u64,
 }
 
+/// NUMBER and TERMS, which what is written decides alone.
+fn written_within_limits(statement: &Statement) -> Result<(), u64> {
+    if !statement.numbers_in_range() {
+        return Err(NUMBER);
+    }
+    if statement.fields().iter().any(|p| p.len() > 96) {
+        return Err(TERMS);
+    }
+    Ok(())
+}
+
 impl State {
+    /// Nothing has stood, with so many words of pool.
+    fn new(pool: usize) -> State {
+        State {
+            phase: Phase::Opening,
+            k: 0,
+            capacity: (pool / 5).min(65_536),
+            store: HashMap::new(),
+            seen: HashSet::new(),
+            goal: Poly::new(),
+            reached: false,
+            products: 0,
+        }
+    }
+
     fn terms(&self) -> usize {
         self.store.values().map(|p| p.len()).sum()
     }
@@ -112,13 +145,8 @@ impl State {
         }
     }
 
+    /// A statement that is written within the limits: the refusals from ORDER to FULL, or what it changes.
     fn step(&mut self, statement: &Statement) -> Result<(), u64> {
-        if !statement.numbers_in_range() {
-            return Err(NUMBER);
-        }
-        if statement.fields().iter().any(|p| p.len() > 96) {
-            return Err(TERMS);
-        }
         match statement {
             Statement::Ring(k) => {
                 self.stands(Phase::Opening)?;
@@ -205,26 +233,38 @@ impl State {
         let polynomials = self.store.len() as u64;
         Answer { verdict, line, index, products: self.products, polynomials, terms: self.terms() as u64 }
     }
+
+    /// The answer where this statement, so many lines down, is refused.
+    fn refuse(&self, verdict: u64, line: u64, statement: &Statement) -> Answer {
+        self.report(verdict, line, if verdict >= TERMS { statement.index() } else { 0 })
+    }
+
+    /// The answer behind so many lines, all of which stood.
+    fn end(&self, count: u64) -> Answer {
+        match (self.phase == Phase::Steps, self.reached) {
+            (false, _) => self.report(NOGOAL, count, 0),
+            (true, false) => self.report(NOTREACHED, count, 0),
+            (true, true) => self.report(0, 0, 0),
+        }
+    }
+}
+
+/// SHORT and LONGTEXT, which leave everything else unread.
+fn room_and_length(bytes: usize, most: usize, pool: usize, scratch: usize) -> Option<Answer> {
+    let refused = |verdict| Some(Answer { verdict, ..Answer::default() });
+    match (pool < 480 || scratch < 6560, bytes > most) {
+        (true, _) => refused(SHORT),
+        (false, true) => refused(LONGTEXT),
+        (false, false) => None,
+    }
 }
 
 /// The answer for a text, with so many words of pool and scratch lent.
 pub fn check(text: &[u8], pool: usize, scratch: usize) -> Answer {
-    if pool < 480 || scratch < 6560 {
-        return Answer { verdict: SHORT, ..Answer::default() };
+    if let Some(refused) = room_and_length(text.len(), TEXT_BYTES, pool, scratch) {
+        return refused;
     }
-    if text.len() > 1_048_576 {
-        return Answer { verdict: LONGTEXT, ..Answer::default() };
-    }
-    let mut state = State {
-        phase: Phase::Opening,
-        k: 0,
-        capacity: (pool / 5).min(65_536),
-        store: HashMap::new(),
-        seen: HashSet::new(),
-        goal: Poly::new(),
-        reached: false,
-        products: 0,
-    };
+    let mut state = State::new(pool);
     let mut count = 0;
     for line in text.split_inclusive(|&b| b == b'\n') {
         count += 1;
@@ -235,15 +275,11 @@ pub fn check(text: &[u8], pool: usize, scratch: usize) -> Answer {
         let Some(Ok(statement)) = content.map(statement) else {
             return state.report(FORM, count, 0);
         };
-        if let Err(verdict) = state.step(&statement) {
-            return state.report(verdict, count, if verdict >= TERMS { statement.index() } else { 0 });
+        if let Err(verdict) = written_within_limits(&statement).and_then(|()| state.step(&statement)) {
+            return state.refuse(verdict, count, &statement);
         }
     }
-    match (state.phase == Phase::Steps, state.reached) {
-        (false, _) => state.report(NOGOAL, count, 0),
-        (true, false) => state.report(NOTREACHED, count, 0),
-        (true, true) => state.report(0, 0, 0),
-    }
+    state.end(count)
 }
 
 /// The answer of the host call and the check program, which take 65,536 bytes at most.

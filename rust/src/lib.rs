@@ -6,6 +6,8 @@ pub mod independent;
 pub mod multiplier;
 pub mod polynomial;
 pub mod proofs;
+pub mod published;
+pub mod published_texts;
 pub mod random;
 #[cfg(feature = "rooms")]
 pub mod rooms;

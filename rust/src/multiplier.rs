@@ -3,6 +3,8 @@
 //! Variables: the bits of a, the bits of b, the partial products, then for each cell its sum and its carry.
 //! At n = 8 these are 16 + 64 + 112 = 192 signals.
 
+use crate::published::{of_lines, Published};
+
 /// How fine the steps are.
 #[derive(Clone, Copy, Debug, PartialEq, Eq)]
 pub enum Style {
@@ -179,6 +181,12 @@ pub fn text(n: usize, k: u32, style: Style) -> Vec<u8> {
     lines.text.into_bytes()
 }
 
+/// The same proof as three published texts, in plain names.
+pub fn published(n: usize, k: u32, style: Style) -> Published {
+    let text = String::from_utf8(text(n, k, style)).expect("lines are ASCII");
+    of_lines(&text.lines().map(String::from).collect::<Vec<_>>())
+}
+
 /// Derives the balance of a cell from its two gates, which are deleted, and gives its index.
 fn balance(cell: &Cell, gates: &(usize, usize), lines: &mut Lines) -> usize {
     let i = lines.lin(&cell.balance(), &[(gates.0, 1), (gates.1, 2)]);
@@ -226,7 +234,7 @@ fn total(circuit: &Circuit, gates: &[(usize, usize)], lines: &mut Lines) -> usiz
 #[cfg(test)]
 mod tests {
     use super::*;
-    use crate::independent::{check_hosted, MISMATCH};
+    use crate::independent::{check_hosted, check_published, MISMATCH, POOL, SCRATCH};
 
     #[test]
     fn every_size_ring_and_style_is_accepted() {
@@ -237,6 +245,25 @@ mod tests {
                 }
             }
         }
+    }
+
+    #[test]
+    fn the_published_texts_have_the_answer_of_the_lines() {
+        for (n, k) in (2..=8).flat_map(|n| [1, 16, 64].map(|k| (n, k))) {
+            for style in STYLES {
+                let published = published(n, k, style);
+                assert_eq!(check_published(&published, 65_536, POOL, SCRATCH), check_hosted(&text(n, k, style)), "{n} {k} {style:?}");
+            }
+        }
+    }
+
+    #[test]
+    fn the_published_texts_are_plain() {
+        let Published { k, constraints, target, proof } = published(2, 16, Style::Cells);
+        assert_eq!(k, 16);
+        assert!(constraints.starts_with(b"1 -x4+x0*x2;\n2 -x5+x0*x3;\n"));
+        assert_eq!(target, b"x4+2*x8+4*x10+8*x11-x0*x2-2*x0*x3-2*x1*x2-4*x1*x3;\n");
+        assert!(proof.starts_with(b"9 % 5 + 6*(2), x6+x5-x8-2*x9;\n5 d;\n6 d;\n"), "{}", proof.escape_ascii());
     }
 
     #[test]

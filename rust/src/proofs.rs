@@ -11,6 +11,8 @@ pub const VARIABLES: [u8; 12] = [0, 1, 2, 3, 62, 63, 64, 127, 128, 191, 192, 255
 #[derive(Default)]
 struct Proof {
     k: u32,
+    /// Whether many factors are 1.
+    ones: bool,
     inputs: Vec<String>,
     steps: Vec<String>,
     stored: Vec<(u64, Polynomial)>,
@@ -25,9 +27,18 @@ struct Proof {
 
 /// The lines of a proof that a checker accepts, unless no goal could be found for it.
 pub fn lines(random: &mut Random) -> Vec<String> {
+    made(false, random)
+}
+
+/// The same with many factors that are written 1, which published proofs leave out.
+pub fn lines_with_ones(random: &mut Random) -> Vec<String> {
+    made(true, random)
+}
+
+fn made(ones: bool, random: &mut Random) -> Vec<String> {
     let k = *random.pick(&[1, 1, 2, 3, 8, 16, 31, 32, 33, 63, 64]);
     let next = *random.pick(&[1, 1, 1, 9, 4_294_967_200]);
-    let mut proof = Proof { k, next, ..Proof::default() };
+    let mut proof = Proof { k, ones, next, ..Proof::default() };
     for _ in 0..random.below(5) {
         proof.input(random);
     }
@@ -77,10 +88,12 @@ impl Proof {
         let mut sum = Polynomial::default();
         let mut pairs = String::new();
         for _ in 0..random.between(1, 3) {
-            let factor = polynomial(self.k, 3, random);
+            let one = self.ones && random.once_in(2);
+            let factor = if one { Polynomial::default().plus_term(self.k, 1, &[]) } else { polynomial(self.k, 3, random) };
             let (index, p) = random.pick(&self.stored);
             sum = sum.plus_times(self.k, 1, &factor.times(self.k, p));
-            pairs += &format!("\t{index}\t{}", factor.written(self.k, random));
+            let written = if one { "1".to_string() } else { factor.written(self.k, random) };
+            pairs += &format!("\t{index}\t{written}");
             self.seen.extend(factor.variables());
         }
         if sum.terms() <= 40 {

@@ -12,7 +12,7 @@ pub fn text(number: u64) -> Vec<u8> {
     match number % 64 {
         0..=15 => joined(&proofs::lines(&mut random)),
         16..=43 => near_miss(proofs::lines(&mut random), &mut random),
-        44..=57 => damaged(joined(&proofs::lines(&mut random)), &mut random),
+        44..=57 => damaged(joined(&proofs::lines(&mut random)), BYTES, &mut random),
         58..=62 => limit(&mut random),
         _ => multiplier(&mut random),
     }
@@ -25,7 +25,7 @@ fn joined(lines: &[String]) -> Vec<u8> {
 // ---- near misses: one line is changed, lost, doubled, moved or added
 
 /// Numbers at the ends of the ranges, and just outside.
-const NUMBERS: [&str; 14] = [
+pub(crate) const NUMBERS: [&str; 14] = [
     "0",
     "1",
     "2",
@@ -83,7 +83,7 @@ fn with_other_terms(line: &str, random: &mut Random) -> String {
 }
 
 /// A step with an index and variables that may be taken, missing or seen, and a polynomial that may be wrong.
-fn wrong_step(lines: &[String], random: &mut Random) -> String {
+pub(crate) fn wrong_step(lines: &[String], random: &mut Random) -> String {
     let known = random.pick(lines).split('\t').nth(1).unwrap_or("1").to_string();
     let index = if random.once_in(2) { known } else { random.between(1, 20).to_string() };
     let v = if random.once_in(2) { *random.pick(&VARIABLES) as usize } else { random.below(256) };
@@ -100,10 +100,10 @@ fn wrong_step(lines: &[String], random: &mut Random) -> String {
 
 const BYTES: &[u8] = b"0123456789.- \t\n\rringoaldext\0\xff";
 
-fn damaged(mut text: Vec<u8>, random: &mut Random) -> Vec<u8> {
+pub(crate) fn damaged(mut text: Vec<u8>, bytes: &[u8], random: &mut Random) -> Vec<u8> {
     for _ in 0..random.between(1, 3) {
         let at = random.below(text.len() + 1);
-        let byte = if random.once_in(8) { random.word() as u8 } else { *random.pick(BYTES) };
+        let byte = if random.once_in(8) { random.word() as u8 } else { *random.pick(bytes) };
         match random.below(4) {
             0 => text.insert(at, byte),
             1 if at < text.len() => drop(text.remove(at)),
@@ -148,7 +148,7 @@ fn long_line(random: &mut Random) -> Vec<u8> {
 }
 
 /// A field of 95 to 98 written terms, in each kind of field; one of three with another number somewhere.
-fn many_terms(random: &mut Random) -> Vec<u8> {
+pub(crate) fn many_terms(random: &mut Random) -> Vec<u8> {
     let field = vec!["1.3"; random.between(95, 98)].join(" ");
     let steps = "ring\t1\nin\t1\t0\ngoal\t0\n";
     let text = match random.below(6) {
@@ -169,14 +169,14 @@ fn subsets(n: usize) -> Polynomial {
 }
 
 /// An ext line with 31 to 34 terms: 961 to 1,156 products. At k = 1 every polynomial is a bit; variable 3 stands in p.
-fn wide_ext(random: &mut Random) -> Vec<u8> {
+pub(crate) fn wide_ext(random: &mut Random) -> Vec<u8> {
     let p = subsets(random.between(31, 34)).written(64, random);
     let (k, v) = (random.pick(&[1, 1, 1, 8]), random.pick(&[200, 200, 200, 3]));
     format!("ring\t{k}\nin\t1\t1\ngoal\t1\next\t2\t{v}\t{p}\n").into_bytes()
 }
 
 /// A lin line with 1,022 to 1,026 products over two pairs, its sum stated right or wrong.
-fn wide_lin(random: &mut Random) -> Vec<u8> {
+pub(crate) fn wide_lin(random: &mut Random) -> Vec<u8> {
     let k = random.between(1, 64) as u32;
     let (p, other) = (subsets(32), Polynomial::variable(7));
     let (most, few) = (subsets(31), subsets(random.between(30, 34)));
@@ -189,7 +189,7 @@ fn wide_lin(random: &mut Random) -> Vec<u8> {
 }
 
 /// 510 inputs and one to four more lines that store, some of them with a fault of their own.
-fn many_polynomials(random: &mut Random) -> Vec<u8> {
+pub(crate) fn many_polynomials(random: &mut Random) -> Vec<u8> {
     let inputs: String = (1..=510).map(|i| format!("in\t{i}\t{}\n", i % 3)).collect();
     let mut text = format!("ring\t8\n{inputs}goal\t0\n");
     for i in 511..511 + random.between(1, 4) {
@@ -205,7 +205,7 @@ fn many_polynomials(random: &mut Random) -> Vec<u8> {
 }
 
 /// 1,536 terms of inputs and 62 to 66 more, then one that needs no room.
-fn stored_terms(random: &mut Random) -> Vec<u8> {
+pub(crate) fn stored_terms(random: &mut Random) -> Vec<u8> {
     let wide: Vec<String> = (0..96).map(|v| format!("1.{v}")).collect();
     let inputs: String = (1..=16).map(|i| format!("in\t{i}\t{}\n", wide.join(" "))).collect();
     let last = &wide[..random.between(62, 66)];
@@ -246,6 +246,6 @@ fn multiplier(random: &mut Random) -> Vec<u8> {
     match random.below(3) {
         0 => text,
         1 => near_miss(String::from_utf8(text).unwrap().lines().map(String::from).collect(), random),
-        _ => damaged(text, random),
+        _ => damaged(text, BYTES, random),
     }
 }
