@@ -20,7 +20,8 @@ use Rattle.paper.specs.Statement.{modulo, Statement, ring, input, goal, lin, de
 use Rattle.paper.specs.Answer.{Outcome, stands, refused, indexOf, judge, judgeItem, itemOf}
 use Rattle.paper.proofs.Reading.{clash, parted}
 use Rattle.steps.specs.Items.{indexOfRead}
-use Rattle.lines.specs.Parts.{verdictOf, always, keyed, pairRanged, Taken, NumberPart}
+use Rattle.reader.specs.Verdicts.{verdictOf}
+use Rattle.lines.specs.Parts.{always, keyed, pairRanged, Taken, NumberPart}
 use Rattle.lines.specs.Lines.{shortItem}
 use Rattle.lines.specs.declared.part.NumberRead.{NumberRead}
 use Rattle.lines.proofs.LineKinds.{no-kind}

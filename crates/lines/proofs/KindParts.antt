@@ -17,19 +17,21 @@ use Rattle.paper.proofs.Reading.{next-assoc}
 use Rattle.written.specs.Worded.{Holds}
 use Rattle.reader.specs.Places.{Got, Fails}
 use Rattle.reader.specs.declared.field.FieldRead.{FieldRead}
+use Rattle.reader.specs.Verdicts.{verdictOf, lesserOf}
 use Rattle.reader.proofs.Following.{got-then, fails-then, fails-first, got-give}
 use Rattle.reader.proofs.Fields.{variable-range}
+use Rattle.reader.proofs.Verdicts.{verdict-both, lesser-accepted}
 use Rattle.scratch.specs.Scratch.{statedAt, goalAt, Kept}
 use Rattle.scratch.proofs.Keeping.{holds-kept}
 use Rattle.sums.specs.declared.Sum.{Sum}
 use Rattle.sums.specs.Sums.{Summed}
 use Rattle.steps.specs.declared.said.Said.{Said}
 use Rattle.steps.specs.declared.said.Said.the-variants.{Ring, Input, Goal, Lin, Del, Ext, Refused}
-use Rattle.lines.specs.Parts.{verdictOf, lesserOf, always, fewTerms, pairRanged, pairFew, Taken, Piece, keyed}
+use Rattle.lines.specs.Parts.{always, fewTerms, pairRanged, pairFew, Taken, Piece, keyed}
 use Rattle.lines.specs.Lines.{closedOf, KindIs}
 use Rattle.lines.specs.declared.part.NumberRead.{NumberRead}
 use Rattle.lines.specs.declared.pairs.PairsRead.{PairsRead}
-use Rattle.lines.proofs.Parts.{verdict-both, lesser-accepted, got-as, fails-as, part-stuck}
+use Rattle.lines.proofs.Parts.{got-as, fails-as, part-stuck}
 use Rattle.lines.proofs.LineKinds.{kind-stops, kind-closes}
 use Rattle.lines.proofs.Statements.{ranged-ring, ranged-input, ranged-goal, ranged-lin, ranged-del, ranged-ext, fewInFields, few-one, few-lin}
 

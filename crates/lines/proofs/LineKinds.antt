@@ -23,6 +23,7 @@ use Rattle.reader.specs.Keywords.{WordIs}
 use Rattle.reader.specs.declared.keyword.Word.{Word}
 use Rattle.reader.specs.declared.keyword.Word.the-variants.{Read as Known, Refused as Unknown}
 use Rattle.reader.proofs.Following.{got-then, fails-then, fails-first, got-give}
+use Rattle.reader.proofs.Verdicts.{verdict-accepted}
 use Rattle.scratch.specs.Scratch.{goalAt}
 use Rattle.sums.specs.declared.Sum.{Sum}
 use Rattle.steps.specs.declared.said.Said.{Said}
@@ -31,7 +32,6 @@ use Rattle.steps.specs.declared.said.ItemRead.{ItemRead}
 use Rattle.steps.specs.Items.{Means, Tells, long, stops, turns, passes, ItemIs}
 use Rattle.lines.specs.Parts.{Taken, keyed}
 use Rattle.lines.specs.Lines.{closedOf, shortItem, KindIs}
-use Rattle.lines.proofs.Parts.{verdict-accepted}
 use Rattle.lines.proofs.Statements.{fewInFields, verdict-written}
 
 -- ---- keywords

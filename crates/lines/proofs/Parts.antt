@@ -1,6 +1,6 @@
--- Parts of a line: their verdicts, one part behind another or behind a tab, and numbers. Assumes nothing.
+-- Parts of a line: one part behind another or behind a tab, and numbers. Assumes nothing.
 use mathlib.Core.Path.{_≡_, refl, sym, ap, ap₂, _∙_}
-use mathlib.Core.Bool.{Bool, true, false, _&&_, not, cond}
+use mathlib.Core.Bool.{Bool, true, false, _&&_}
 use mathlib.Core.Logic.{inl, inr, ⊎-elim}
 use Prim.Native.Nat.{ℕ, _+_, _≤_, _<_}
 use native.Mathlib.Numerals.{add-one}
@@ -9,68 +9,19 @@ use lib.Dec.{eqb, ltb}
 use lib.ListN.{length, drop, getD, drop-of-length-le}
 use lib.Seq.{drop-cons}
 use borrow.Author.Tests.{eqb-true, eqb-false, eq-eqb, ne-eqb, ltb-true, ltb-false}
-use Rattle.ground.proofs.Tests.{and-left, and-right, cond-yes, cond-no}
-use Rattle.limits.specs.Verdicts.{ACCEPTED, FORM, NUMBER}
+use Rattle.ground.proofs.Tests.{and-left, and-right}
+use Rattle.limits.specs.Verdicts.{ACCEPTED, FORM}
 use Rattle.paper.specs.Grammar.{Bytes, bytes, Reader, next, give, literal, decimal, tab, number}
 use Rattle.paper.specs.Statement.{within}
 use Rattle.paper.specs.Rules.{first}
 use Rattle.reader.specs.Places.{Got, Fails}
 use Rattle.reader.specs.Numbers.{InRange}
 use Rattle.reader.specs.declared.number.Refusal.{Refusal}
+use Rattle.reader.specs.Verdicts.{verdictOf, lesserOf}
 use Rattle.reader.proofs.Numbers.{within-yes, RefusedAs}
 use Rattle.reader.proofs.Following.{got-then, got-give, fails-then, fails-first}
-use Rattle.lines.specs.Parts.{verdictOf, lesserOf, always, Taken, Piece}
-
-pub not-not : (b : Bool) → b ≡ not (not b)
-not-not true = refl
-not-not false = refl
-
--- ---- verdicts
--- of two parts
-pub verdict-both : (a b x y : Bool) → verdictOf (a && b) (x && y) ≡ lesserOf (verdictOf a x) (verdictOf b y)
-unfolding first lesserOf
-verdict-both true b true y = refl
-verdict-both true true false true = refl
-verdict-both true true false false = refl
-verdict-both true false false y = refl
-verdict-both false true x true = refl
-verdict-both false true x false = refl
-verdict-both false false x y = refl
-
-pub verdict-form : (a b : Bool) → verdictOf a b ≡ FORM → ⊥
-unfolding first
-verdict-form true true e = omega arith
-verdict-form true false e = omega arith
-verdict-form false b e = omega arith
-
-pub verdict-accepted : (a b : Bool) → verdictOf a b ≡ ACCEPTED → a ≡ true
-unfolding first
-verdict-accepted true b e = refl
-verdict-accepted false b e = absurd (let z : ⊥ = omega arith in z)
-
-pub lesser-accepted : (v w : ℕ) → lesserOf v w ≡ ACCEPTED → (v ≡ ACCEPTED) × (w ≡ ACCEPTED)
-unfolding lesserOf
-lesser-accepted v w e = go (eqb v ACCEPTED) (eqb w NUMBER) refl refl e
-  where
-    go : (a b : Bool) → eqb v ACCEPTED ≡ a → eqb w NUMBER ≡ b → cond a w (cond b w v) ≡ ACCEPTED → (v ≡ ACCEPTED) × (w ≡ ACCEPTED)
-    go true b p q e = (eqb-true v ACCEPTED p, e)
-    go false true p q e = absurd (let z : ⊥ = omega (arith, eqb-true w NUMBER q) in z)
-    go false false p q e = absurd (eqb-false v ACCEPTED p e)
-
--- the lesser, by cases
-module _ (a b : ℕ) where
-  pub lesser-none : a ≡ ACCEPTED → b ≡ lesserOf a b
-  unfolding lesserOf
-  lesser-none e = sym (cond-yes (eqb a ACCEPTED) b (cond (eqb b NUMBER) b a) (eq-eqb a ACCEPTED e))
-
-  module _ (f : a ≡ ACCEPTED → ⊥) where
-    pub lesser-number : b ≡ NUMBER → b ≡ lesserOf a b
-    unfolding lesserOf
-    lesser-number e = sym (cond-no (eqb a ACCEPTED) b (cond (eqb b NUMBER) b a) (ne-eqb a ACCEPTED f) ∙ cond-yes (eqb b NUMBER) b a (eq-eqb b NUMBER e))
-
-    pub lesser-first : (b ≡ NUMBER → ⊥) → a ≡ lesserOf a b
-    unfolding lesserOf
-    lesser-first g = sym (cond-no (eqb a ACCEPTED) b (cond (eqb b NUMBER) b a) (ne-eqb a ACCEPTED f) ∙ cond-no (eqb b NUMBER) b a (ne-eqb b NUMBER g))
+use Rattle.reader.proofs.Verdicts.{verdict-both, verdict-form, lesser-accepted}
+use Rattle.lines.specs.Parts.{always, Taken, Piece}
 
 -- ---- one reader as another
 module _ {A : Type 0} {read read′ : Reader A} {s : Bytes} {at : ℕ} (q : read′ (drop at s) ≡ read (drop at s)) where

@@ -22,12 +22,14 @@ use Rattle.scratch.specs.Scratch.{factorAt, goalAt}
 use Rattle.reader.specs.Places.{Fails}
 use Rattle.reader.specs.Fields.{FieldStops, FieldAt, FieldIs}
 use Rattle.reader.specs.declared.field.FieldRead.{FieldRead}
+use Rattle.reader.specs.Verdicts.{lesserOf}
 use Rattle.reader.proofs.Following.{fails-then, fails-first}
+use Rattle.reader.proofs.Verdicts.{not-not}
 use Rattle.reader.proofs.Ranges.{field-fine, field-holds}
-use Rattle.lines.specs.Parts.{lesserOf, fewTerms, pairRanged, pairFew, Taken, Piece, NumberPart, FieldPart, PairPart}
+use Rattle.lines.specs.Parts.{fewTerms, pairRanged, pairFew, Taken, Piece, NumberPart, FieldPart, PairPart}
 use Rattle.lines.specs.declared.part.NumberRead.{NumberRead}
 use Rattle.lines.specs.declared.part.PairRead.{PairRead}
-use Rattle.lines.proofs.Parts.{not-not, part-stuck, part-took, part-behind, took-map, took-then, tabbed, tab-got, tab-fails}
+use Rattle.lines.proofs.Parts.{part-stuck, part-took, part-behind, took-map, took-then, tabbed, tab-got, tab-fails}
 
 -- ---- a field in a region that was lent, and came back as y
 module _ (s : Bytes) (at base : ℕ) (words y : List ℕ) (l : base + fieldTerms * termWords ≤ length words) (r : FieldRead) where

@@ -8,8 +8,9 @@ use Rattle.limits.specs.Limits.{greatestRing}
 use Rattle.limits.specs.Verdicts.{NUMBER, TERMS}
 use Rattle.paper.specs.Statement.{Written, Pair, modulo, Statement, ring, input, goal, lin, del, ext, newIndex, namedIndices, fields, within, isRing, isIndex, isVariable, inRange, numbersInRange, tooManyTerms}
 use Rattle.paper.specs.Rules.{first, writtenRules}
-use Rattle.lines.specs.Parts.{verdictOf, fewTerms, pairRanged, pairFew}
-use Rattle.lines.proofs.Parts.{not-not}
+use Rattle.reader.specs.Verdicts.{verdictOf}
+use Rattle.lines.specs.Parts.{fewTerms, pairRanged, pairFew}
+use Rattle.reader.proofs.Verdicts.{not-not}
 
 not-or : (a b : Bool) → (not a && not b) ≡ not (a || b)
 not-or true b = refl

@@ -22,10 +22,12 @@ use Rattle.sums.specs.declared.Sum.{Sum}
 use Rattle.sums.specs.Sums.{Summed}
 use Rattle.sums.proofs.Summing.{summed-kept}
 use Rattle.reader.specs.Places.{Fails}
+use Rattle.reader.specs.Verdicts.{verdictOf, lesserOf}
 use Rattle.reader.proofs.Following.{fails-first, ItemsUpTo, passed-none, passed-more, passed-stuck, passed-stop}
-use Rattle.lines.specs.Parts.{verdictOf, lesserOf, pairRanged, pairFew, Taken}
+use Rattle.reader.proofs.Verdicts.{verdict-both, lesser-accepted}
+use Rattle.lines.specs.Parts.{pairRanged, pairFew, Taken}
 use Rattle.lines.specs.declared.part.PairRead.{PairRead}
-use Rattle.lines.proofs.Parts.{verdict-both, lesser-accepted, got-as, fails-as, tabbed, tab-inside, tab-byte, tab-got, tab-fails}
+use Rattle.lines.proofs.Parts.{got-as, fails-as, tabbed, tab-inside, tab-byte, tab-got, tab-fails}
 
 -- ---- one pair or more, and as many as follow
 module _ (s : Bytes) (at : ℕ) where

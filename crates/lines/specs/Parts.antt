@@ -1,33 +1,25 @@
 -- What is read of the parts of a line.
 use mathlib.Core.Path.{_≡_}
-use mathlib.Core.Bool.{Bool, true, _&&_, not, cond}
-use mathlib.Core.List.{List, [], _∷_}
+use mathlib.Core.Bool.{Bool, true, _&&_, not}
+use mathlib.Core.List.{List}
 use mathlib.Core.Logic.{_⊎_}
 use Prim.Native.Nat.{ℕ, _+_, _*_}
-use lib.Dec.{eqb}
 use Rattle.ground.specs.Lists.{every}
 use Rattle.limits.specs.Limits.{fieldTerms, termWords}
-use Rattle.limits.specs.Verdicts.{ACCEPTED, FORM, NUMBER, TERMS}
+use Rattle.limits.specs.Verdicts.{ACCEPTED, FORM}
 use Rattle.words.specs.Parts.{Within}
 use Rattle.paper.specs.Grammar.{Bytes, Reader, next, literal, field, pair, pairs}
 use Rattle.paper.specs.Statement.{Written, Pair, isIndex, inRange, tooManyTerms}
-use Rattle.paper.specs.Rules.{first, Store}
+use Rattle.paper.specs.Rules.{Store}
 use Rattle.written.specs.Worded.{Holds}
 use Rattle.reader.specs.Places.{Got, Fails}
+use Rattle.reader.specs.Verdicts.{verdictOf}
 use Rattle.reader.specs.declared.field.FieldRead.{FieldRead}
 use Rattle.scratch.specs.Scratch.{factorAt, goalAt, Kept}
 use Rattle.sums.specs.Sums.{Summed}
 use Rattle.lines.specs.declared.part.NumberRead.{NumberRead}
 use Rattle.lines.specs.declared.part.PairRead.{PairRead}
 use Rattle.lines.specs.declared.pairs.PairsRead.{PairsRead}
-
--- ---- verdicts on what is written: NUMBER where a number is out of its range, else TERMS where a field has too many terms
-abbrev pub verdictOf : Bool → Bool → ℕ
-verdictOf ranged few = first ((NUMBER, not ranged) ∷ (TERMS, not few) ∷ [])
-
--- on two parts by those on each
-unfoldable pub lesserOf : ℕ → ℕ → ℕ
-lesserOf a b = cond (eqb a ACCEPTED) b (cond (eqb b NUMBER) b a)
 
 -- a part that has no field
 abbrev pub always : {A : Type 0} → A → Bool

@@ -8,12 +8,13 @@ ghost use lib.ListN.{length, getD};
 ghost use Rattle.limits.specs.Limits.{greatestIndex, fieldTerms, termWords, leastScratch};
 ghost use Rattle.paper.specs.Grammar.{decimal, number};
 ghost use Rattle.paper.specs.Statement.{within};
-ghost use Rattle.lines.specs.Parts.{lesserOf, NumberPart, FieldPart, PairPart};
+ghost use Rattle.lines.specs.Parts.{NumberPart, FieldPart, PairPart};
 use reader::field::FieldRead;
 use reader::field::read_field;
 use reader::number::Number;
 use reader::number::number_at;
 use reader::number::refused;
+use reader::verdict::lesser;
 
 // A number behind a tab.
 pub(crate) struct NumberRead {
@@ -28,19 +29,6 @@ pub(crate) struct PairRead {
     pub terms: usize,
     pub end: usize,
     pub why: u64,
-}
-
-// The verdict on two parts: NUMBER of either before TERMS of either.
-pub(crate) fn lesser(a: u64, b: u64) -> u64
-    ensures { λ r. ⌜ r ≡ lesserOf a b ⌝ }
-{
-    if a == limits::ACCEPTED {
-        return b;
-    }
-    if b == limits::NUMBER {
-        return b;
-    }
-    a
 }
 
 // Whether a tab stands at at.

@@ -9,3 +9,4 @@ pub mod Gathering
 pub mod Polynomials
 pub mod Ranges
 pub mod Decided
+pub mod Verdicts

@@ -4,3 +4,4 @@ pub mod Numbers
 pub mod Keywords
 pub mod Marks
 pub mod Fields
+pub mod Verdicts

@@ -4,3 +4,4 @@ pub mod find;
 pub mod keyword;
 pub mod number;
 pub mod term;
+pub mod verdict;

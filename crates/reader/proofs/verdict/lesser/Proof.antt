@@ -1,7 +1,7 @@
--- `lines::part::lesser` meets its contract, by cases. No loop. Assumes nothing.
-use Rattle.lines.proofs.Parts.{lesser-none, lesser-number, lesser-first}
-use Rattle.lines.proofs.part.lesser.Statement.{statement}
-use Rattle.lines.proofs.part.lesser.Tie as tie
+-- `reader::verdict::lesser` meets its contract, by cases. No loop. Assumes nothing.
+use Rattle.reader.proofs.Verdicts.{lesser-none, lesser-number, lesser-first}
+use Rattle.reader.proofs.verdict.lesser.Statement.{statement}
+use Rattle.reader.proofs.verdict.lesser.Tie as tie
 
 returns : tie.Need-returns
 returns c = let a = c .before .args in lesser-none (a .a) (a .b) (c .if1 .taken)
