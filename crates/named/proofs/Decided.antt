@@ -1,5 +1,5 @@
 -- What the contracts of `named` decide: where a reader ends and how it refuses; and, where no name is bad, numbers, names and terms. Those of
--- `skip_spaces`, `mark_at` and `constant_at` decide all by laws of `reader` (`same-end`, `one-word`, `one-number`). Assumes nothing.
+-- `skip_spaces`, `symbol_at` and `constant_at` decide all by laws of `reader` (`same-end`, `one-word`, `one-number`). Assumes nothing.
 use mathlib.Core.Path.{_≡_, sym, ap, ap₂, subst, _∙_}
 use mathlib.Core.Bool.{Bool, false, _&&_, not, cond}
 use mathlib.Core.List.{List, [], _∷_}

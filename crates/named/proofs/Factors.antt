@@ -84,29 +84,29 @@ pub map-append : {A B : Type 0} (f : A → B) (xs ys : List A) → map f (xs ++ 
 map-append f [] ys = refl
 map-append f (x ∷ xs) ys = ap (λ (l : List _). f x ∷ l) (map-append f xs ys)
 
-abbrev pub factor : Reader Name
-factor = do spaces; name
+abbrev pub nextName : Reader Name
+nextName = do spaces; name
 
 -- names stand from at up to i
 abbrev pub NamesTo : Bool → ℕ → Bytes → ℕ → ℕ → Bytes → Bytes → List ℕ → ℕ → Bool → ℕ → Type 0
 NamesTo plain n s at begin room room′ set names bad i =
-    ItemsUpTo (code "*") factor
+    ItemsUpTo (code "*") nextName
     (λ ns. (bad ≡ false → numberOf set ≡ bitOr begin (setOf (map (numberIn plain names room′) ns))) × NamesAre plain n ns room room′ names bad) s at i
 
 pub names-start : (plain : Bool) (n : ℕ) (s : Bytes) (at : ℕ) (room : Bytes) (set : List ℕ) → at ≤ length s → Holding n room
     → NamesTo plain n s at (numberOf set) room room set n false at
 unfolding setOf
-names-start plain n s at room set l h = passed-none (code "*") factor s at l ((λ _. sym (or-zero-r (numberOf set))), names-none plain n room h)
+names-start plain n s at room set l h = passed-none (code "*") nextName s at l ((λ _. sym (or-zero-r (numberOf set))), names-none plain n room h)
 
 module _ (plain : Bool) (n : ℕ) (s : Bytes) (at begin : ℕ) (room mid : Bytes) (set : List ℕ) (names : ℕ) (bad : Bool) (i : ℕ)
     (p : NamesTo plain n s at begin room mid set names bad i) (here : standsAt s i (code "*") ≡ true) (j : ℕ) (g : Got spaces s (i + 1) tt j) where
   pub names-stuck : {q : ℕ} → Fails name s j q → Fails moreNames s at q
-  names-stuck f = passed-stuck (code "*") factor s at i p (stands s i (code "*") here .0) (stands s i (code "*") here .1) (fails-then spaces _ g f)
+  names-stuck f = passed-stuck (code "*") nextName s at i p (stands s i (code "*") here .0) (stands s i (code "*") here .1) (fails-then spaces _ g f)
 
   pub names-more : (room′ : Bytes) (v : NameRead) → NameAt plain names s j mid room′ v → (set′ : List ℕ) → numberOf set′ ≡ bitOr (2 ^ v .number) (numberOf set)
       → NamesTo plain n s at begin room room′ set′ (v .names) (bad || v .bad) (v .end)
   names-more room′ v h set′ q =
-      passed-more (code "*") factor s at i p (stands s i (code "*") here .0) (stands s i (code "*") here .1) takes-factor (got-then spaces _ g (h .taken))
+      passed-more (code "*") nextName s at i p (stands s i (code "*") here .0) (stands s i (code "*") here .1) takes-factor (got-then spaces _ g (h .taken))
       (λ ns k. ((λ e. with-one ns (or-none-left bad (v .bad) e) (or-none-right bad (v .bad) e) (k .0 (or-none-left bad (v .bad) e)) (k .1)), names-then (k .1) (h .names)))
     where
       with-one : (ns : List Name) → bad ≡ false → v .bad ≡ false → numberOf set ≡ bitOr begin (setOf (map (numberIn plain names mid) ns)) → NamesAre plain n ns room mid names bad

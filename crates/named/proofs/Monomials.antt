@@ -37,7 +37,7 @@ use Rattle.named.specs.declared.monomial.ConstantRead.{ConstantRead}
 use Rattle.named.specs.declared.monomial.MonomialRead.{MonomialRead}
 use Rattle.named.proofs.Tokens.{got-as, fails-as, is-here, is-not}
 use Rattle.named.proofs.Naming.{in-first, names-then, number-stays}
-use Rattle.named.proofs.Factors.{factor}
+use Rattle.named.proofs.Factors.{nextName}
 
 -- ---- a sign before the first monomial
 module _ (s : Bytes) (at : ℕ) where
@@ -70,14 +70,14 @@ same-term p q = λ i. record { set = p i; coef = q i }
 none-taken : (s : Bytes) (i e : ℕ) (ns : List Name) → Got moreNames s i ns e → eqb e i ≡ eqb (length ns) 0
 none-taken s i e ns g =
     bool-ext (eqb e i) (eqb (length ns) 0)
-    (λ t. eq-eqb (length ns) 0 (ap length (each-none (code "*") factor takes-factor refl (drop i s) ns (g .reads ∙ ap (λ (k : ℕ). got ns (drop k s)) (eqb-true e i t)))))
+    (λ t. eq-eqb (length ns) 0 (ap length (each-none (code "*") nextName takes-factor refl (drop i s) ns (g .reads ∙ ap (λ (k : ℕ). got ns (drop k s)) (eqb-true e i t)))))
     (λ t. eq-eqb e i (none ns (g .reads) (eqb-true (length ns) 0 t)))
   where
     none : (ns : List Name) → moreNames (drop i s) ≡ got ns (drop e s) → length ns ≡ 0 → e ≡ i
     none [] q z =
         let o = g .onward in
         let k = g .inside in
-        omega (arith, ap length (each-empty (code "*") factor (drop i s) (drop e s) q), length-drop i s, length-drop e s)
+        omega (arith, ap length (each-empty (code "*") nextName (drop i s) (drop e s) q), length-drop i s, length-drop e s)
     none (m ∷ ns) q z = absurd (let y : ⊥ = omega arith in y)
 
 module _ (negative : Bool) (s : Bytes) (at : ℕ) (d : isAt isDigit s at ≡ true) (c : ConstantRead) (h : ConstantAt s at c) where

@@ -32,9 +32,9 @@ use Rattle.reader.proofs.Gathering.{worded-append}
 use Rattle.reader.proofs.Polynomials.{verdict-first, few}
 use Rattle.reader.proofs.Fields.{stands-inside}
 use Rattle.names.specs.Names.{Holding}
-use Rattle.named.specs.Reads.{isAt, NamesAre, numberIn, MonomialAt, RestOf, RestAt, RestIs, PolyIs}
+use Rattle.named.specs.Reads.{isAt, NamesAre, numberIn, MonomialAt, MonomialsOf, MonomialsAt, MonomialsIs, PolyIs}
 use Rattle.named.specs.declared.monomial.MonomialRead.{MonomialRead}
-use Rattle.named.specs.declared.poly.Rest.{Rest}
+use Rattle.named.specs.declared.poly.MonomialsRead.{MonomialsRead}
 use Rattle.named.specs.declared.poly.PolyRead.{PolyRead}
 use Rattle.named.proofs.Tokens.{is-here, is-not, either-at}
 use Rattle.named.proofs.Naming.{names-none, names-then, term-stays, field-stays}
@@ -65,13 +65,13 @@ range-append ms t =
     ∙ ap (λ (b : Bool). every isTerm (map (renamedTerm unnumbered) ms) && b) (alone (isTerm (renamedTerm unnumbered t)) ∙ term-range t))
 
 -- ---- monomials behind a first
-pub rest-none : (plain : Bool) (n : ℕ) (room : Bytes) (out : List ℕ) → Holding n room → RestOf plain n room room out out 1 ACCEPTED n false []
+pub rest-none : (plain : Bool) (n : ℕ) (room : Bytes) (out : List ℕ) → Holding n room → MonomialsOf plain n room room out out 1 ACCEPTED n false []
 unfolding inRange renamedField every worded namesOf gather
 rest-none plain n room out h = record { verdict = refl; count = refl; run = λ a b l. sym (append-nil (decode 1 out)); named = names-none plain n room h }
 
-module _ {plain : Bool} {n : ℕ} {room x room′ : Bytes} {out mid out′ : List ℕ} {terms why names : ℕ} {bad : Bool} {ms : WrittenOf Name} (p : RestOf plain n room x out mid terms why names bad ms)
+module _ {plain : Bool} {n : ℕ} {room x room′ : Bytes} {out mid out′ : List ℕ} {terms why names : ℕ} {bad : Bool} {ms : WrittenOf Name} (p : MonomialsOf plain n room x out mid terms why names bad ms)
     {negative : Bool} {s : Bytes} {at : ℕ} {m : MonomialRead} (h : MonomialAt plain names negative s at x room′ m) (put : PutBehind terms (m .why) (m .term) mid out′) where
-  rest-more : (why′ : ℕ) → why′ ≡ firstOf why (m .why) → RestOf plain n room room′ out out′ (terms + 1) why′ (m .names) (bad || m .bad) (ms ++ (h .value ∷ []))
+  rest-more : (why′ : ℕ) → why′ ≡ firstOf why (m .why) → MonomialsOf plain n room room′ out out′ (terms + 1) why′ (m .names) (bad || m .bad) (ms ++ (h .value ∷ []))
   unfolding renamedField worded namesOf
   rest-more why′ ew = record {
     verdict =
@@ -118,12 +118,12 @@ module _ (s : Bytes) (i : ℕ) (plus dash : Bool) (ep : plus ≡ standsAt s i 43
           let h = is-here isSign s i (sign-at here) in
           monomials-stuck s i (h .0) (h .1) (drop p s) (fails-then spaces _ g (subst (λ (b : Bool). Fails (monomial b) s j p) (is-dash q) f) .reads)
 
-pub rest-form : {plain : Bool} {n : ℕ} {s : Bytes} {at : ℕ} {room room′ : Bytes} {out out′ : List ℕ} {r : Rest} → RestAt plain n s at room room′ out out′ r → r .why ≡ FORM → ⊥
+pub rest-form : {plain : Bool} {n : ℕ} {s : Bytes} {at : ℕ} {room room′ : Bytes} {out out′ : List ℕ} {r : MonomialsRead} → MonomialsAt plain n s at room room′ out out′ r → r .why ≡ FORM → ⊥
 rest-form h f = verdict-of (inRange (renamedField unnumbered (h .value))) (sym (h .holds .verdict) ∙ f)
 
 -- monomials stand from at up to i, and are put behind the first
 abbrev pub MonomialsTo : Bool → ℕ → Bytes → ℕ → Bytes → Bytes → List ℕ → List ℕ → ℕ → ℕ → ℕ → Bool → ℕ → Type 0
-MonomialsTo plain n s at room room′ out out′ terms why names bad i = ReadUpTo moreMonomials (RestOf plain n room room′ out out′ terms why names bad) s at i
+MonomialsTo plain n s at room room′ out out′ terms why names bad i = ReadUpTo moreMonomials (MonomialsOf plain n room room′ out out′ terms why names bad) s at i
 
 module _ (plain : Bool) (n : ℕ) (s : Bytes) (at : ℕ) (room : Bytes) (out : List ℕ) where
   pub monomials-none : at ≤ length s → Holding n room → MonomialsTo plain n s at room room out out 1 ACCEPTED n false at
@@ -194,8 +194,8 @@ module _ (plain : Bool) (n : ℕ) (s : Bytes) (at : ℕ) (room : Bytes) (out : L
   unfolding poly
   poly-stops w f q = rw (q, w) (record { said = inl (refl, fails-then minus _ g (fails-first (monomial negative) _ f)); within = within-refl })
 
-  module _ (x room′ : Bytes) (m : MonomialRead) (h : MonomialAt plain n negative s i room x m) (mid out′ : List ℕ) (put : PutBehind 0 (m .why) (m .term) out mid) (r : Rest)
-      (k : RestIs plain (m .names) s (m .end) x room′ mid out′ r) where
+  module _ (x room′ : Bytes) (m : MonomialRead) (h : MonomialAt plain n negative s i room x m) (mid out′ : List ℕ) (put : PutBehind 0 (m .why) (m .term) out mid) (r : MonomialsRead)
+      (k : MonomialsIs plain (m .names) s (m .end) x room′ mid out′ r) where
     all : Within 0 (fieldTerms * termWords) out out′
     all = within-trans
         (within-wider 0 (0 * termWords) ((0 + 1) * termWords) (fieldTerms * termWords) out mid (omega arith) (omega arith) (put .kept (omega arith)))
@@ -206,7 +206,7 @@ module _ (plain : Bool) (n : ℕ) (s : Bytes) (at : ℕ) (room : Bytes) (out : L
     unfolding poly
     rest-stops w e q = rw (q, w) (record { said = inl (refl, fails-then minus _ g (fails-then (monomial negative) _ (h .taken) (fails-first moreMonomials _ e))); within = all })
 
-    module _ (y : RestAt plain (m .names) s (m .end) x room′ mid out′ r) where
+    module _ (y : MonomialsAt plain (m .names) s (m .end) x room′ mid out′ r) where
       -- what the code tells the zero polynomial by
       nothing : (eqb (r .terms) 1 && m .zero && not negative) ≡ isNothing (h .value) (y .value)
       nothing =

@@ -15,7 +15,7 @@ use Rattle.ground.proofs.Tests.{split, and-left, and-right}
 use Rattle.limits.specs.Verdicts.{FORM}
 use Rattle.words.specs.Parts.{part}
 use Rattle.paper.specs.Grammar.{Bytes, got, stuck, Reader, next, literal, isDigit, digits}
-use Rattle.paper.specs.Published.{isLetter, spaces, token, mark, constant, nameRest}
+use Rattle.paper.specs.Published.{isLetter, spaces, token, symbol, constant, nameRest}
 use Rattle.paper.proofs.PublishedReading.{rest-more, rest-stop, rest-end}
 use Rattle.reader.specs.Places.{Got, Fails}
 use Rattle.reader.specs.Numbers.{InRange, NumberIs, refusedOf}
@@ -68,17 +68,17 @@ either-at f g s i x y ex ey e = sym (go (ltb i (length s))) ∙ sym (ap₂ _||_ 
 
 -- ---- signs
 module _ (s : Bytes) (at b : ℕ) where
-  pub mark-here : {e : ℕ} → standsAt s at b ≡ true → Got spaces s (at + 1) tt e → Got (mark b) s at tt e
+  pub symbol-here : {e : ℕ} → standsAt s at b ≡ true → Got spaces s (at + 1) tt e → Got (symbol b) s at tt e
   unfolding literal
-  mark-here q g =
+  symbol-here q g =
       let h = stands s at b q in
       let l = h .0 in
       let r : literal (b ∷ []) (drop at s) ≡ got tt (drop (at + 1) s) = rw (drop-cons s at 0 l, eq-eqb (getD s at 0) b (h .1), add-one at) in
       got-then (literal (b ∷ [])) _ (record { reads = r; onward = omega arith; inside = omega arith }) (got-then spaces _ g (got-give tt (g .inside)))
 
-  pub mark-not : at ≤ length s → standsAt s at b ≡ false → Fails (mark b) s at at
+  pub symbol-not : at ≤ length s → standsAt s at b ≡ false → Fails (symbol b) s at at
   unfolding literal
-  mark-not l q =
+  symbol-not l q =
       fails-first (literal (b ∷ [])) _
       (record { reads = ⊎-elim (λ h. rw (drop-cons s at 0 (h .0), ne-eqb (getD s at 0) b (h .1))) (λ h. rw (drop-of-length-le s h)) (stands-not s at b q); onward = omega arith; inside = l })
 

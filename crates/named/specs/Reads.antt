@@ -25,7 +25,7 @@ use Rattle.named.specs.declared.name.NameRead.{NameRead}
 use Rattle.named.specs.declared.monomial.NamesRead.{NamesRead}
 use Rattle.named.specs.declared.monomial.ConstantRead.{ConstantRead}
 use Rattle.named.specs.declared.monomial.MonomialRead.{MonomialRead}
-use Rattle.named.specs.declared.poly.Rest.{Rest}
+use Rattle.named.specs.declared.poly.MonomialsRead.{MonomialsRead}
 use Rattle.named.specs.declared.poly.PolyRead.{PolyRead}
 
 -- ---- digits without the white space behind them
@@ -96,19 +96,19 @@ abbrev pub MonomialIs : Bool → ℕ → Bool → Bytes → ℕ → Bytes → By
 MonomialIs plain n negative s at room room′ r = StopsOr (monomial negative) s at (r .end) (r .why) (MonomialAt plain n negative s at room room′ r)
 
 -- ---- monomials behind a first, put behind its term in out; their numbers are their coefficients here
-pub record RestOf (plain : Bool) (n : ℕ) (room room′ : Bytes) (out out′ : List ℕ) (terms why names : ℕ) (bad : Bool) (ms : WrittenOf Name) : Type 0 where
+pub record MonomialsOf (plain : Bool) (n : ℕ) (room room′ : Bytes) (out out′ : List ℕ) (terms why names : ℕ) (bad : Bool) (ms : WrittenOf Name) : Type 0 where
   pub verdict : why ≡ cond (inRange (renamedField (λ n. 0) ms)) ACCEPTED NUMBER
   pub count : terms ≡ suc (length ms)
   pub run : why ≡ ACCEPTED → bad ≡ false → terms ≤ fieldTerms → decode terms out′ ≡ decode 1 out ++ worded (renamedField (numberIn plain names room′) ms)
   pub named : NamesAre plain n (namesOf ms) room room′ names bad
 
-pub record RestAt (plain : Bool) (n : ℕ) (s : Bytes) (at : ℕ) (room room′ : Bytes) (out out′ : List ℕ) (r : Rest) : Type 0 where
+pub record MonomialsAt (plain : Bool) (n : ℕ) (s : Bytes) (at : ℕ) (room room′ : Bytes) (out out′ : List ℕ) (r : MonomialsRead) : Type 0 where
   pub value : WrittenOf Name
   pub taken : Got moreMonomials s at value (r .end)
-  pub holds : RestOf plain n room room′ out out′ (r .terms) (r .why) (r .names) (r .bad) value
+  pub holds : MonomialsOf plain n room room′ out out′ (r .terms) (r .why) (r .names) (r .bad) value
 
-pub record RestIs (plain : Bool) (n : ℕ) (s : Bytes) (at : ℕ) (room room′ : Bytes) (out out′ : List ℕ) (r : Rest) : Type 0 where
-  pub said : StopsOr moreMonomials s at (r .end) (r .why) (RestAt plain n s at room room′ out out′ r)
+pub record MonomialsIs (plain : Bool) (n : ℕ) (s : Bytes) (at : ℕ) (room room′ : Bytes) (out out′ : List ℕ) (r : MonomialsRead) : Type 0 where
+  pub said : StopsOr moreMonomials s at (r .end) (r .why) (MonomialsAt plain n s at room room′ out out′ r)
   pub within : Within termWords (fieldTerms * termWords) out out′
 
 -- ---- a polynomial, as a run at the front of out

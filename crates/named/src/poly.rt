@@ -8,7 +8,7 @@ ghost use Rattle.paper.specs.Published.{minus};
 ghost use Rattle.reader.specs.Places.{Got};
 ghost use Rattle.reader.specs.Fields.{standsAt};
 ghost use Rattle.names.specs.Names.{Holding, hintCount};
-ghost use Rattle.named.specs.Reads.{RestIs, PolyIs};
+ghost use Rattle.named.specs.Reads.{MonomialsIs, PolyIs};
 use super::monomial::read_monomial;
 use super::token::skip_spaces;
 use reader::field::put_term;
@@ -17,7 +17,7 @@ use reader::term::first_verdict;
 use reader::term::stands_at;
 
 // The monomials of a polynomial behind its first: how many it has with the first.
-struct Rest {
+struct MonomialsRead {
     terms: usize,
     end: usize,
     why: u64,
@@ -44,9 +44,9 @@ fn read_rest(
     s: &[u8],
     at: usize,
     out: &mut [u64],
-) -> Rest
+) -> MonomialsRead
     requires { ⌜ Holding n (now room) × (hintCount ≤ length (now hints)) × (at ≤ length (now s)) × (fieldTerms * termWords ≤ length (now out)) ⌝ }
-    ensures { λ r. ⌜ RestIs plain n (now (s .entry)) at (now (room .entry)) (now (room .exit)) (now (out .entry)) (now (out .exit)) r ⌝ }
+    ensures { λ r. ⌜ MonomialsIs plain n (now (s .entry)) at (now (room .entry)) (now (room .exit)) (now (out .entry)) (now (out .exit)) r ⌝ }
 {
     let mut terms: usize = 1;
     let mut why = limits::ACCEPTED;
@@ -64,7 +64,7 @@ fn read_rest(
             stands_at(s, i, b'-'),
         );
         if m.why == limits::FORM {
-            return Rest {
+            return MonomialsRead {
                 terms,
                 end: m.end,
                 why: m.why,
@@ -80,7 +80,7 @@ fn read_rest(
         bad = bad | m.bad;
         i = m.end;
     }
-    Rest {
+    MonomialsRead {
         terms,
         end: i,
         why,

@@ -3,7 +3,7 @@ ghost use mathlib.Core.Path.{_≡_};
 ghost use Prim.Native.Nat.{_≤_};
 ghost use lib.ListN.{length};
 ghost use Rattle.paper.specs.Grammar.{isDigit};
-ghost use Rattle.paper.specs.Published.{isSpace, spaces, mark, constant};
+ghost use Rattle.paper.specs.Published.{isSpace, spaces, symbol, constant};
 ghost use Rattle.reader.specs.Places.{Got};
 ghost use Rattle.reader.specs.Keywords.{WordIs};
 ghost use Rattle.reader.specs.Numbers.{NumberIs};
@@ -39,9 +39,9 @@ pub fn skip_spaces(s: &[u8], at: usize) -> usize
 }
 
 // The sign b at at.
-pub fn mark_at(s: &[u8], at: usize, b: u8) -> Word
+pub fn symbol_at(s: &[u8], at: usize, b: u8) -> Word
     requires { ⌜ at ≤ length (now s) ⌝ }
-    ensures { λ r. ⌜ WordIs (mark b) (now (s .entry)) at r ⌝ }
+    ensures { λ r. ⌜ WordIs (symbol b) (now (s .entry)) at r ⌝ }
 {
     if !stands_at(s, at, b) {
         return Word::Refused(limits::FORM, at);

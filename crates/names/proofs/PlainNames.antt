@@ -63,23 +63,23 @@ tellsPlain d = elim d [ got v r ↦ isVariable v | stuck r ↦ false ]
 abbrev tellsNumber : Read ℕ → ℕ
 tellsNumber d = elim d [ got v r ↦ v | stuck r ↦ 0 ]
 
-record Tells (s : Name) (d : Read ℕ) : Type 0 where
+record SaysPlain (s : Name) (d : Read ℕ) : Type 0 where
   plain : isPlain s ≡ tellsPlain d
   number : plainNumber s ≡ tellsNumber d
 
-tells : (s : Name) (d : Read ℕ) → afterX s ≡ d → Tells s d
+tells : (s : Name) (d : Read ℕ) → afterX s ≡ d → SaysPlain s d
 unfolding isPlain plainNumber
 tells s d e = record { plain = ap tellsPlain e; number = ap tellsNumber e }
 
 -- without an x there is none
-tells-none : (s : Name) (r t : Bytes) → Tells s (stuck r) → Tells s (stuck t)
+tells-none : (s : Name) (r t : Bytes) → SaysPlain s (stuck r) → SaysPlain s (stuck t)
 tells-none s r t h = record { plain = h .plain; number = h .number }
 
-tells-behind : (s : Name) (d : Read ℕ) → decimal (drop (behindX s) s) ≡ d → Tells s (toEnd d)
+tells-behind : (s : Name) (d : Read ℕ) → decimal (drop (behindX s) s) ≡ d → SaysPlain s (toEnd d)
 unfolding decimal toEnd
 tells-behind s d e = go (eqb (getD s 0 0) (code "x")) refl e
   where
-    go : (b : Bool) → eqb (getD s 0 0) (code "x") ≡ b → decimal (drop (cond b 1 (length s)) s) ≡ d → Tells s (toEnd d)
+    go : (b : Bool) → eqb (getD s 0 0) (code "x") ≡ b → decimal (drop (cond b 1 (length s)) s) ≡ d → SaysPlain s (toEnd d)
     go true q e = tells s (toEnd d) (with-x s (eqb-true (getD s 0 0) 120 q) ∙ ap toEnd e)
     go false q e =
         let z : stuck [] ≡ d = sym (ap decimal (drop-length s)) ∙ e in
@@ -104,10 +104,10 @@ module _ (s : Name) (at : ℕ) (q : at ≡ behindX s) where
   plain-read {v = v} {e = e} h f =
       let r = number-got decimal 0 (variables - 1) s at h f in
       let g = r .taken in
-      let t : Tells s (cond (eqb e (length s)) (got v []) (stuck (drop e s))) = rw (← end-at s v e (g .inside)) (tells-behind s (got v (drop e s)) (rw (← q) (g .reads))) in
+      let t : SaysPlain s (cond (eqb e (length s)) (got v []) (stuck (drop e s))) = rw (← end-at s v e (g .inside)) (tells-behind s (got v (drop e s)) (rw (← q) (g .reads))) in
       go (eqb e (length s)) (r .below) t
     where
-      go : (b : Bool) → v ≤ variables - 1 → Tells s (cond b (got v []) (stuck (drop e s))) → (b ≡ isPlain s) × (b ≡ true → v ≡ plainNumber s)
+      go : (b : Bool) → v ≤ variables - 1 → SaysPlain s (cond b (got v []) (stuck (drop e s))) → (b ≡ isPlain s) × (b ≡ true → v ≡ plainNumber s)
       go true l t = (sym (t .plain ∙ lt-ltb v variables (omega arith)), λ _. sym (t .number))
       go false l t = (sym (t .plain), λ x. never (sym x))
 

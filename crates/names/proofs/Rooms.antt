@@ -52,10 +52,10 @@ alone-at n room s i h l e =
     sym (h .apart i (omega (arith, length-held n room))) ∙ ap (placeIn (held n room)) (held-at n room i l ∙ same-name (nameIn room i) s e)
 
 -- ---- a search from the first on: none of the first i is the name
-abbrev pub Passed : ℕ → Bytes → Name → ℕ → Type 0
-Passed n room s i = placeIn (held n room) s ≡ i + placeIn (drop i (held n room)) s
+abbrev pub NotBefore : ℕ → Bytes → Name → ℕ → Type 0
+NotBefore n room s i = placeIn (held n room) s ≡ i + placeIn (drop i (held n room)) s
 
-module _ (n : ℕ) (room : Bytes) (s : Name) (i : ℕ) (p : Passed n room s i) where
+module _ (n : ℕ) (room : Bytes) (s : Name) (i : ℕ) (p : NotBefore n room s i) where
   module _ (l : i < n) (b : Bool) (e : b ≡ sameName (nameIn room i) s) where
     is-at : sameName (getD (held n room) i []) s ≡ b
     is-at = ap (λ (m : Name). sameName m s) (held-at n room i l) ∙ sym e
@@ -63,7 +63,7 @@ module _ (n : ℕ) (room : Bytes) (s : Name) (i : ℕ) (p : Passed n room s i) w
     pub found : b ≡ true → i ≡ placeIn (held n room) s
     found t = sym (place-here (held n room) s i p (omega (arith, length-held n room)) (is-at ∙ t))
 
-    pub passed-more : b ≡ false → Passed n room s (i + 1)
+    pub passed-more : b ≡ false → NotBefore n room s (i + 1)
     passed-more t = place-further (held n room) s i p (omega (arith, length-held n room)) (is-at ∙ t)
 
   pub passed-all : i ≡ n → n ≡ placeIn (held n room) s

@@ -19,5 +19,4 @@ pub mod PublishedReads
 pub mod Renamed
 pub mod PublishedSound
 pub mod PublishedText
-pub mod PublishedSamples
 pub mod PublishedReading

@@ -15,7 +15,7 @@ use Rattle.paper.specs.Grammar.{Bytes, bytes, Line, onFirst, endedBy, li
 use Rattle.paper.specs.Spelling.{spellDigits, spellNumber}
 use Rattle.paper.specs.LineText.{writeTerm, writeField, tabNumber, tabField, tabPairs, writeLine, endLine}
 use Rattle.paper.proofs.Reading.{next-got}
-use Rattle.paper.proofs.ReadBack.{noDigit, number-back, without, apart, fieldEnds, bareZero, field-back, each-back}
+use Rattle.paper.proofs.ReadBack.{noDigit, number-back, beginsOther, apart, fieldEnds, bareZero, field-back, each-back}
 
 -- it is not one bare term of magnitude 0
 abbrev pub goodField : {A : Type 0} → WrittenOf A → Bool
@@ -35,7 +35,7 @@ unfolding field tab literal bytes
 field-before p s z h = field-back p s (not-true (bareZero p) z) h
 
 field-last : (p : Written) → goodField p ≡ true → field (tabField p) ≡ got p []
-unfolding fieldEnds apart noDigit without
+unfolding fieldEnds apart noDigit beginsOther
 field-last p z = ap field (sym (append-nil (tabField p))) ∙ field-before p [] z refl
 
 -- ---- pairs
@@ -52,12 +52,12 @@ pair-back q s z h =
     ∙ next-got _ (number-back (q .index) (tabField (q .factor) ++ s) refl) (next-got _ (field-before (q .factor) s z h) refl)
 
 pairs-end : (qs : List Pair) → fieldEnds (tabPairs qs) ≡ true
-unfolding tabPairs gather fieldEnds apart noDigit without isDigit
+unfolding tabPairs gather fieldEnds apart noDigit beginsOther isDigit
 pairs-end [] = refl
 pairs-end (q ∷ qs) = refl
 
 more-back : (qs : List Pair) → every goodPair qs ≡ true → each (code "\t") pair (tabPairs qs) ≡ got qs []
-unfolding tabPairs fieldEnds apart noDigit without isDigit
+unfolding tabPairs fieldEnds apart noDigit beginsOther isDigit
 more-back qs z =
     ap (each (code "\t") pair) (sym (append-nil (tabPairs qs)))
     ∙ each-back (code "\t") pair pairText goodPair fieldEnds pair-back (λ r. refl) qs [] z refl refl
@@ -77,10 +77,10 @@ goodPairs (q ∷ qs) = every goodPair (q ∷ qs)
 unfoldable pub hasLine : {A : Type 0} → StatementOf A → Bool
 hasLine st = elim st [ ring r ↦ true | input i p ↦ goodField p | goal p ↦ goodField p | lin i p qs ↦ goodField p && goodPairs qs | del i ↦ true | ext i v p ↦ goodField p ]
 
-abbrev pub lineOf : Statement → Line
-lineOf st = record { content = writeLine st; ended = true }
+abbrev pub writtenLine : Statement → Line
+writtenLine st = record { content = writeLine st; ended = true }
 
-pub line-back : (st : Statement) → hasLine st ≡ true → statement (lineOf st) ≡ got st []
+pub line-back : (st : Statement) → hasLine st ≡ true → statement (writtenLine st) ≡ got st []
 unfolding statement oneOf kinds beginsAlike literal bytes end writeLine hasLine goodPairs noDigit isDigit
 line-back (ring (modulo k)) h = next-got _ (next-got _ (number-last k) refl) refl
 line-back (input i p) h = next-got _ (next-got _ (number-before i (tabField p) refl) (next-got _ (field-last p h) refl)) refl
@@ -101,50 +101,50 @@ line-back (ext i v p) h =
 abbrev inLine : ℕ → Bool
 inLine b = not (eqb b (code "\n"))
 
-abbrev Inside : Bytes → Type 0
-Inside s = every inLine s ≡ true
+abbrev InLine : Bytes → Type 0
+InLine s = every inLine s ≡ true
 
-inside-append : (s t : Bytes) → Inside s → Inside t → Inside (s ++ t)
+inside-append : (s t : Bytes) → InLine s → InLine t → InLine (s ++ t)
 inside-append s t a b = every-append inLine s t ∙ and-both (every inLine s) (every inLine t) a b
 
-inside-gather : {A : Type 0} (f : A → Bytes) → ((x : A) → Inside (f x)) → (xs : List A) → Inside (gather f xs)
+inside-gather : {A : Type 0} (f : A → Bytes) → ((x : A) → InLine (f x)) → (xs : List A) → InLine (gather f xs)
 unfolding gather every
 inside-gather f h [] = refl
 inside-gather f h (x ∷ xs) = inside-append (f x) (gather f xs) (h x) (inside-gather f h xs)
 
-inside-digits : (d n : ℕ) → Inside (spellDigits d n)
+inside-digits : (d n : ℕ) → InLine (spellDigits d n)
 unfolding spellDigits every
 inside-digits zero n = refl
 inside-digits (suc d) n =
-    by-cond Inside (ltb n 10) (λ _. digit n) (λ _. inside-append (spellDigits d (n / 10)) ((code "0" + n % 10) ∷ []) (inside-digits d (n / 10)) (digit (n % 10)))
+    by-cond InLine (ltb n 10) (λ _. digit n) (λ _. inside-append (spellDigits d (n / 10)) ((code "0" + n % 10) ∷ []) (inside-digits d (n / 10)) (digit (n % 10)))
   where
-    digit : (m : ℕ) → Inside ((code "0" + m) ∷ [])
+    digit : (m : ℕ) → InLine ((code "0" + m) ∷ [])
     digit m = rw (ne-eqb (48 + m) 10 (λ e. omega arith))
 
-inside-number : (n : ℕ) → Inside (spellNumber n)
+inside-number : (n : ℕ) → InLine (spellNumber n)
 unfolding spellNumber
 inside-number n = inside-digits (suc n) n
 
-inside-term : (t : WrittenTerm) → Inside (writeTerm t)
+inside-term : (t : WrittenTerm) → InLine (writeTerm t)
 unfolding writeTerm every
 inside-term t =
     inside-append (cond (t .negative) (code "-" ∷ []) []) (spellNumber (t .magnitude) ++ gather (λ v. code "." ∷ spellNumber v) (t .variables))
-    (by-cond Inside (t .negative) (λ _. refl) (λ _. refl))
+    (by-cond InLine (t .negative) (λ _. refl) (λ _. refl))
     (inside-append (spellNumber (t .magnitude)) (gather (λ v. code "." ∷ spellNumber v) (t .variables)) (inside-number (t .magnitude))
     (inside-gather (λ v. code "." ∷ spellNumber v) inside-number (t .variables)))
 
-inside-field : (p : Written) → Inside (writeField p)
+inside-field : (p : Written) → InLine (writeField p)
 unfolding writeField bytes every
 inside-field [] = refl
 inside-field (t ∷ ts) = inside-append (writeTerm t) (gather (λ u. code " " ∷ writeTerm u) ts) (inside-term t) (inside-gather (λ u. code " " ∷ writeTerm u) inside-term ts)
 
-inside-pairs : (qs : List Pair) → Inside (tabPairs qs)
+inside-pairs : (qs : List Pair) → InLine (tabPairs qs)
 unfolding tabPairs every
 inside-pairs qs =
     inside-gather (λ q. tabNumber (q .index) ++ tabField (q .factor))
     (λ q. inside-append (tabNumber (q .index)) (tabField (q .factor)) (inside-number (q .index)) (inside-field (q .factor))) qs
 
-inside-line : (st : Statement) → Inside (writeLine st)
+inside-line : (st : Statement) → InLine (writeLine st)
 unfolding writeLine bytes every
 inside-line (ring (modulo k)) = inside-number k
 inside-line (input i p) = inside-append (tabNumber i) (tabField p) (inside-number i) (inside-field p)
@@ -155,7 +155,7 @@ inside-line (del i) = inside-number i
 inside-line (ext i v p) = inside-append (tabNumber i) (tabNumber v ++ tabField p) (inside-number i) (inside-append (tabNumber v) (tabField p) (inside-number v) (inside-field p))
 
 -- ---- the lines of statements in a row
-first-line : (w s : Bytes) → Inside w → lines (w ++ (code "\n" ∷ s)) ≡ record { content = w; ended = true } ∷ lines s
+first-line : (w s : Bytes) → InLine w → lines (w ++ (code "\n" ∷ s)) ≡ record { content = w; ended = true } ∷ lines s
 unfolding lines endedBy onFirst every
 first-line [] s h = refl
 first-line (b ∷ w) s h =
@@ -163,9 +163,9 @@ first-line (b ∷ w) s h =
     (not-true (eqb b (code "\n")) (and-left (inLine b) (every inLine w) h))
     ∙ ap (onFirst b) (first-line w s (and-right (inLine b) (every inLine w) h))
 
-pub lines-back : (sts : List Statement) → lines (gather endLine sts) ≡ map lineOf sts
+pub lines-back : (sts : List Statement) → lines (gather endLine sts) ≡ map writtenLine sts
 unfolding gather endLine lines endedBy
 lines-back [] = refl
 lines-back (st ∷ sts) =
     ap lines (append-assoc (writeLine st) (code "\n" ∷ []) (gather endLine sts))
-    ∙ first-line (writeLine st) (gather endLine sts) (inside-line st) ∙ ap (λ (ls : List Line). lineOf st ∷ ls) (lines-back sts)
+    ∙ first-line (writeLine st) (gather endLine sts) (inside-line st) ∙ ap (λ (ls : List Line). writtenLine st ∷ ls) (lines-back sts)

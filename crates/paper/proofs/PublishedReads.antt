@@ -11,7 +11,7 @@ use Rattle.ground.proofs.Lists.{every-append}
 use Rattle.ground.proofs.Tests.{by-cond, and-both}
 use Rattle.paper.specs.Statement.{PairOf, TermOf, goal, input, lin, del, ext}
 use Rattle.paper.specs.Grammar.{Bytes, Line, Read, got, stuck, Reader, next, give, end, upTo, asWritten}
-use Rattle.paper.specs.Published.{Name, Named, spaces, mark, constant, name, monomial, moreMonomials, minus, poly, constraint, target, factor, summand, moreSummands, summands, addends, multiplied, linear, delete, extend, stepRules, ruleOf, proofStep, pieces, NamedItem, readBy, targetItems}
+use Rattle.paper.specs.Published.{Name, Named, spaces, symbol, constant, name, monomial, moreMonomials, minus, poly, constraint, target, factor, summand, moreSummands, summands, addends, multiplied, linear, delete, extend, stepRules, ruleOf, proofStep, pieces, NamedItem, readBy, targetItems}
 use Rattle.paper.specs.Named.{Texts, namedItems}
 use Rattle.paper.proofs.Reading.{clash, parted}
 use Rattle.paper.proofs.Pieces.{isZero}
@@ -19,22 +19,22 @@ use Rattle.paper.proofs.ReadBack.{bareZero}
 use Rattle.paper.proofs.LinesBack.{goodField, goodPair, goodPairs, hasLine}
 
 -- ---- what a reader gives, whatever it reads
-abbrev Gives : {A : Type 0} → (A → Bool) → Reader A → Type 0
-Gives {A} P read = (s : Bytes) (x : A) (r : Bytes) → read s ≡ got x r → P x ≡ true
+abbrev Yields : {A : Type 0} → (A → Bool) → Reader A → Type 0
+Yields {A} P read = (s : Bytes) (x : A) (r : Bytes) → read s ≡ got x r → P x ≡ true
 
 module _ {A B : Type 0} where
-  gives-then : (P : B → Bool) (read : Reader A) (f : A → Reader B) → ((x : A) → Gives P (f x)) → Gives P (λ s. next (read s) f)
+  gives-then : (P : B → Bool) (read : Reader A) (f : A → Reader B) → ((x : A) → Yields P (f x)) → Yields P (λ s. next (read s) f)
   gives-then P read f h s y t e = let p = parted (read s) f e in h (p .value) (p .rest) y t (p .second)
 
-  gives-with : (Q : A → Bool) (P : B → Bool) (read : Reader A) (f : A → Reader B) → Gives Q read → ((x : A) → Q x ≡ true → Gives P (f x)) → Gives P (λ s. next (read s) f)
+  gives-with : (Q : A → Bool) (P : B → Bool) (read : Reader A) (f : A → Reader B) → Yields Q read → ((x : A) → Q x ≡ true → Yields P (f x)) → Yields P (λ s. next (read s) f)
   gives-with Q P read f g h s y t e =
       let p = parted (read s) f e in
       h (p .value) (g s (p .value) (p .rest) (p .first)) (p .rest) y t (p .second)
 
-gives-give : {A : Type 0} (P : A → Bool) (x : A) → P x ≡ true → Gives P (give x)
+gives-give : {A : Type 0} (P : A → Bool) (x : A) → P x ≡ true → Yields P (give x)
 gives-give P x h s y r e = let q : x ≡ y = cc in ap P (sym q) ∙ h
 
-gives-upTo : {A : Type 0} (P : A → Bool) (m c : ℕ) (item : Reader A) → Gives P item → Gives (every P) (upTo m c item)
+gives-upTo : {A : Type 0} (P : A → Bool) (m c : ℕ) (item : Reader A) → Yields P item → Yields (every P) (upTo m c item)
 unfolding upTo every
 gives-upTo P zero c item h s xs r e = gives-give (every P) [] refl s xs r e
 gives-upTo P (suc m) c item h [] xs r e = gives-give (every P) [] refl [] xs r e
@@ -51,72 +51,72 @@ unfolding asWritten bareZero
 as-written-good t [] = by-cond (λ (p : List (TermOf Name)). goodField p ≡ true) (isZero t) (λ _. refl) (λ e. ap not e)
 as-written-good t (u ∷ ts) = refl
 
-gives-poly : Gives goodField poly
+gives-poly : Yields goodField poly
 unfolding poly
 gives-poly =
     gives-then goodField minus _ (λ n. gives-then goodField (monomial n) _ (λ m. gives-then goodField moreMonomials _
     (λ ms. gives-give goodField (asWritten m ms) (as-written-good m ms))))
 
-gives-factor : Gives goodField factor
+gives-factor : Yields goodField factor
 unfolding factor bareZero
 gives-factor [] q r e = gives-give goodField _ refl [] q r e
 gives-factor (b ∷ s) q r e =
     by-cond (λ (x : Read (List (TermOf Name))). x ≡ got q r → goodField q ≡ true) (eqb b (code "*"))
-    (λ _. gives-then goodField spaces _ (λ _. gives-then goodField (mark (code "(")) _
-    (λ _. gives-with goodField goodField poly _ gives-poly (λ p h. gives-then goodField (mark (code ")")) _ (λ _. gives-give goodField p h)))) s q r)
+    (λ _. gives-then goodField spaces _ (λ _. gives-then goodField (symbol (code "(")) _
+    (λ _. gives-with goodField goodField poly _ gives-poly (λ p h. gives-then goodField (symbol (code ")")) _ (λ _. gives-give goodField p h)))) s q r)
     (λ _. gives-give goodField _ refl (b ∷ s) q r) e
 
-gives-summand : Gives goodPair summand
+gives-summand : Yields goodPair summand
 unfolding summand
 gives-summand = gives-then goodPair constant _ (λ i. gives-with goodField goodPair factor _ gives-factor (λ q h. gives-give goodPair _ h))
 
-gives-more : Gives (every goodPair) moreSummands
+gives-more : Yields (every goodPair) moreSummands
 gives-more s = gives-upTo goodPair (length s) (code "+") _ (gives-then goodPair spaces _ (λ _. gives-summand)) s
 
 -- ---- statements
-gives-constraint : Gives hasLine constraint
+gives-constraint : Yields hasLine constraint
 unfolding constraint hasLine
 gives-constraint = gives-then hasLine constant _ (λ i. gives-with goodField hasLine poly _ gives-poly (λ p h. gives-give hasLine (input i p) h))
 
-gives-target : Gives hasLine target
+gives-target : Yields hasLine target
 unfolding target hasLine
 gives-target = gives-with goodField hasLine poly _ gives-poly (λ p h. gives-give hasLine (goal p) h)
 
 -- the pairs, one at least
-gives-summands : Gives goodPairs summands
+gives-summands : Yields goodPairs summands
 unfolding summands goodPairs every
 gives-summands =
     gives-with goodPair goodPairs summand _ gives-summand (λ q hq. gives-with (every goodPair) goodPairs moreSummands _ gives-more
     (λ qs hqs. gives-give goodPairs (q ∷ qs) (and-both (goodPair q) (every goodPair qs) hq hqs)))
 
-gives-addends : Gives goodPairs addends
+gives-addends : Yields goodPairs addends
 unfolding addends goodPairs every bareZero
-gives-addends = gives-then goodPairs constant _ (λ j. gives-then goodPairs (mark (code ",")) _ (λ _. gives-then goodPairs constant _ (λ l. gives-give goodPairs _ refl)))
+gives-addends = gives-then goodPairs constant _ (λ j. gives-then goodPairs (symbol (code ",")) _ (λ _. gives-then goodPairs constant _ (λ l. gives-give goodPairs _ refl)))
 
-gives-multiplied : Gives goodPairs multiplied
+gives-multiplied : Yields goodPairs multiplied
 unfolding multiplied goodPairs every
 gives-multiplied =
-    gives-then goodPairs constant _ (λ j. gives-then goodPairs (mark (code ",")) _ (λ _. gives-with goodField goodPairs poly _ gives-poly
+    gives-then goodPairs constant _ (λ j. gives-then goodPairs (symbol (code ",")) _ (λ _. gives-with goodField goodPairs poly _ gives-poly
     (λ q hq. gives-give goodPairs _ (and-both (goodField q) true hq refl))))
 
 module _ (i : ℕ) where
-  gives-linear : (pairs : Reader (List (PairOf Name))) → Gives goodPairs pairs → Gives hasLine (linear pairs i)
+  gives-linear : (pairs : Reader (List (PairOf Name))) → Yields goodPairs pairs → Yields hasLine (linear pairs i)
   unfolding hasLine
   gives-linear pairs g =
-      gives-with goodPairs hasLine pairs _ g (λ qs hqs. gives-then hasLine (mark (code ",")) _ (λ _. gives-with goodField hasLine poly _ gives-poly
+      gives-with goodPairs hasLine pairs _ g (λ qs hqs. gives-then hasLine (symbol (code ",")) _ (λ _. gives-with goodField hasLine poly _ gives-poly
       (λ p h. gives-give hasLine (lin i p qs) (and-both (goodField p) (goodPairs qs) h hqs))))
 
-  gives-delete : Gives hasLine (delete i)
+  gives-delete : Yields hasLine (delete i)
   unfolding hasLine
   gives-delete = gives-give hasLine (del i) refl
 
-  gives-extend : Gives hasLine (extend i)
+  gives-extend : Yields hasLine (extend i)
   unfolding hasLine
   gives-extend =
-      gives-then hasLine name _ (λ v. gives-then hasLine (mark (code ",")) _ (λ _. gives-with goodField hasLine poly _ gives-poly (λ p h. gives-give hasLine (ext i v p) h)))
+      gives-then hasLine name _ (λ v. gives-then hasLine (symbol (code ",")) _ (λ _. gives-with goodField hasLine poly _ gives-poly (λ p h. gives-give hasLine (ext i v p) h)))
 
   -- whatever byte comes first
-  gives-rule : Gives hasLine (ruleOf stepRules i)
+  gives-rule : Yields hasLine (ruleOf stepRules i)
   unfolding ruleOf stepRules
   gives-rule [] st r e = absurd (clash e)
   gives-rule (b ∷ s) st r e =
@@ -126,13 +126,13 @@ module _ (i : ℕ) where
       (by (eqb b (code "+")) (spaced (linear addends i) (gives-linear addends gives-addends))
       (by (eqb b (code "*")) (spaced (linear multiplied i) (gives-linear multiplied gives-multiplied)) (λ e. absurd (clash e)))))) e
     where
-      spaced : (read : Reader Named) → Gives hasLine read → next (spaces s) (λ _. read) ≡ got st r → hasLine st ≡ true
+      spaced : (read : Reader Named) → Yields hasLine read → next (spaces s) (λ _. read) ≡ got st r → hasLine st ≡ true
       spaced read g = gives-then hasLine spaces (λ _. read) (λ _. g) s st r
 
       by : (t : Bool) {x y : Read Named} → (x ≡ got st r → hasLine st ≡ true) → (y ≡ got st r → hasLine st ≡ true) → cond t x y ≡ got st r → hasLine st ≡ true
       by t f g = by-cond (λ (q : Read Named). q ≡ got st r → hasLine st ≡ true) t (λ _. f) (λ _. g)
 
-gives-step : Gives hasLine proofStep
+gives-step : Yields hasLine proofStep
 unfolding proofStep
 gives-step = gives-then hasLine constant _ gives-rule
 
@@ -144,7 +144,7 @@ read-says : (r : Read Named) → ((st : Named) (t : Bytes) → r ≡ got st t �
 read-says (got st t) h = h st t refl
 read-says (stuck t) h = refl
 
-by-says : (read : Reader Named) → Gives hasLine read → (l : Line) → saysLine (readBy read l) ≡ true
+by-says : (read : Reader Named) → Yields hasLine read → (l : Line) → saysLine (readBy read l) ≡ true
 unfolding saysLine readBy
 by-says read g l =
     by-cond (λ (r : Read Named). elim r [ got st t ↦ hasLine st | stuck t ↦ true ] ≡ true) (l .ended) (λ _. read-says whole says)
@@ -156,7 +156,7 @@ by-says read g l =
     says : (st : Named) (t : Bytes) → whole ≡ got st t → hasLine st ≡ true
     says = gives-with hasLine hasLine read (λ st r. next (end r) (λ _. give st)) g (λ st h. gives-then hasLine end _ (λ _. gives-give hasLine st h)) (l .content)
 
-all-say : (read : Reader Named) → Gives hasLine read → (ls : List Line) → every saysLine (map (readBy read) ls) ≡ true
+all-say : (read : Reader Named) → Yields hasLine read → (ls : List Line) → every saysLine (map (readBy read) ls) ≡ true
 unfolding every
 all-say read g [] = refl
 all-say read g (l ∷ ls) = and-both (saysLine (readBy read l)) (every saysLine (map (readBy read) ls)) (by-says read g l) (all-say read g ls)

@@ -19,7 +19,7 @@ use Rattle.paper.specs.Published.{Name, Named, NamedItem}
 use Rattle.paper.specs.Named.{namesIn, readable, numbering, badName, namedRules, numbered, Texts, namedItems, publishedItems, publishedAnswer}
 use Rattle.paper.specs.LineText.{writeLine, lineText}
 use Rattle.paper.proofs.Running.{judge-stands, item-read, run-stands, run-refused}
-use Rattle.paper.proofs.LinesBack.{hasLine, lineOf, line-back, lines-back}
+use Rattle.paper.proofs.LinesBack.{hasLine, writtenLine, line-back, lines-back}
 use Rattle.paper.proofs.PublishedReads.{saysLine, items-say}
 use Rattle.paper.proofs.Renamed.{line-renamed, none-append, written-same}
 
@@ -51,10 +51,10 @@ oneLess a = record { verdict = a .verdict; line = a .line - 1; index = a .index;
 
 -- ---- one item
 line-judged : (capacity : ℕ) (s : State) (st : Statement) → hasLine st ≡ true → shortLine st ≡ true
-    → judgeItem capacity s (itemOf (lineOf st)) ≡ judge capacity s (first (writtenRules st)) st
+    → judgeItem capacity s (itemOf (writtenLine st)) ≡ judge capacity s (first (writtenRules st)) st
 unfolding itemOf shortLine
 line-judged capacity s st h l =
-    item-read capacity s (itemOf (lineOf st)) (le-ltb lineBytes (length (writeLine st)) (leb-true (length (writeLine st)) lineBytes l)) st [] (line-back st h)
+    item-read capacity s (itemOf (writtenLine st)) (le-ltb lineBytes (length (writeLine st)) (leb-true (length (writeLine st)) lineBytes l)) st [] (line-back st h)
     ∙ ap (λ (r : Read Statement). judge capacity s (elim r [ got st r ↦ first (writtenRules st) | stuck r ↦ ACCEPTED ]) st) (line-back st h)
 
 module _ (f : Name → ℕ) where
@@ -100,7 +100,7 @@ module _ (f : Name → ℕ) where
       }
 
   named-judged : (capacity : ℕ) (s : State) (i : NamedItem) (is : List NamedItem) (w : First i is)
-      → judgeItem capacity s (numbered f i) ≡ judgeItem capacity s (itemOf (lineOf (renamed f (w .st))))
+      → judgeItem capacity s (numbered f i) ≡ judgeItem capacity s (itemOf (writtenLine (renamed f (w .st))))
   unfolding numbered
   named-judged capacity s i is w =
       item-read capacity s (numbered f i) (w .here) (renamed f (w .st)) (w .rest)
@@ -135,12 +135,12 @@ ending-less s n = go (eqb (s .phase) steps) (s .reached)
 
 module _ (f : Name → ℕ) where
   linesOf : List NamedItem → List Item
-  linesOf is = map itemOf (map lineOf (statementsOf (map (numbered f) is)))
+  linesOf is = map itemOf (map writtenLine (statementsOf (map (numbered f) is)))
 
-  lines-first : (i : NamedItem) (is : List NamedItem) (w : First f i is) → linesOf (i ∷ is) ≡ itemOf (lineOf (renamed f (w .st))) ∷ linesOf is
+  lines-first : (i : NamedItem) (is : List NamedItem) (w : First f i is) → linesOf (i ∷ is) ≡ itemOf (writtenLine (renamed f (w .st))) ∷ linesOf is
   unfolding linesOf statementsOf gather numbered
   lines-first i is w =
-      ap (λ (r : Read Named). map itemOf (map lineOf (ifRead (elim r [ got st r ↦ got (renamed f st) r | stuck r ↦ stuck r ]) ++ statementsOf (map (numbered f) is)))) (w .reads)
+      ap (λ (r : Read Named). map itemOf (map writtenLine (ifRead (elim r [ got st r ↦ got (renamed f st) r | stuck r ↦ stuck r ]) ++ statementsOf (map (numbered f) is)))) (w .reads)
 
   module _ (capacity : ℕ) where
     -- how a run goes on after an outcome
@@ -157,7 +157,7 @@ module _ (f : Name → ℕ) where
     run-less [] w s n = ending-less s n
     run-less (i ∷ is) w s n =
         let x : First f i is = fit-first f (i .long) (i .reads) is w in
-        let line : Item = itemOf (lineOf (renamed f (x .st))) in
+        let line : Item = itemOf (writtenLine (renamed f (x .st))) in
         ap (λ (o : Outcome). goesOn s o (suc n) (map (numbered f) is)) (named-judged f capacity s i is x)
         ∙ goes-less s (suc n) (map (numbered f) is) (linesOf is) (λ s′. run-less is (x .others) s′ (suc n)) (judgeItem capacity s line)
         ∙ ap (λ (js : List Item). oneLess (run capacity s (suc n) js)) (sym (lines-first i is x))
@@ -187,7 +187,7 @@ short-less : unread SHORT ≡ oneLess (unread SHORT)
 unfolding unread oneLess
 short-less = refl
 
-pub items-of-lines : (k : ℕ) (t : Texts) → items (lineText k t) ≡ map itemOf (map lineOf (ring (modulo k) ∷ statementsOf (publishedItems t)))
+pub items-of-lines : (k : ℕ) (t : Texts) → items (lineText k t) ≡ map itemOf (map writtenLine (ring (modulo k) ∷ statementsOf (publishedItems t)))
 unfolding items lineText
 items-of-lines k t = ap (map itemOf) (lines-back (ring (modulo k) ∷ statementsOf (publishedItems t)))
 
@@ -201,7 +201,7 @@ module _ (k : ℕ) (t : Texts) (h : HasLineText k t) where
     short = and-right (shortLine (ring (modulo k))) (every shortLine (statementsOf (publishedItems t))) (h .lines);
   }
 
-  ring-judged : (capacity : ℕ) → judgeItem capacity start (itemOf (lineOf (ring (modulo k)))) ≡ judge capacity start (cond (isRing (modulo k)) ACCEPTED NUMBER) (ring (modulo k))
+  ring-judged : (capacity : ℕ) → judgeItem capacity start (itemOf (writtenLine (ring (modulo k)))) ≡ judge capacity start (cond (isRing (modulo k)) ACCEPTED NUMBER) (ring (modulo k))
   unfolding every hasLine
   ring-judged capacity =
       line-judged capacity start (ring (modulo k)) refl (and-left (shortLine (ring (modulo k))) (every shortLine (statementsOf (publishedItems t))) (h .lines))
@@ -215,7 +215,7 @@ module _ (k : ℕ) (t : Texts) (h : HasLineText k t) where
       go (isRing (modulo k)) (ring-judged capacity) ∙ ap (λ (is : List Item). oneLess (run capacity start 0 is)) (sym (items-of-lines k t))
     where
       first-line : Item
-      first-line = itemOf (lineOf (ring (modulo k)))
+      first-line = itemOf (writtenLine (ring (modulo k)))
 
       others : List Item
       others = linesOf (numbering (allNames t)) (namedItems t)

@@ -90,15 +90,15 @@ unsigned (suc d) n s h =
 
 -- ---- as many items as follow
 -- the byte c does not come next
-unfoldable pub without : ℕ → Bytes → Bool
-without c [] = true
-without c (b ∷ s) = not (eqb b c)
+unfoldable pub beginsOther : ℕ → Bytes → Bool
+beginsOther c [] = true
+beginsOther c (b ∷ s) = not (eqb b c)
 
 -- good items that are read back before what `ok` allows, each behind c, are read back in a row
 module _ {A : Type 0} (c : ℕ) (item : Reader A) (spelled : A → Bytes) (good : A → Bool) (ok : Bytes → Bool)
     (back : (x : A) (s : Bytes) → good x ≡ true → ok s ≡ true → item (spelled x ++ s) ≡ got x s) (tail : (s : Bytes) → ok (c ∷ s) ≡ true) where
-  upTo-none : (m : ℕ) (s : Bytes) → without c s ≡ true → upTo m c item s ≡ got [] s
-  unfolding upTo without
+  upTo-none : (m : ℕ) (s : Bytes) → beginsOther c s ≡ true → upTo m c item s ≡ got [] s
+  unfolding upTo beginsOther
   upTo-none zero s h = refl
   upTo-none (suc m) [] h = refl
   upTo-none (suc m) (b ∷ s) h = go (eqb b c) h
@@ -116,7 +116,7 @@ module _ {A : Type 0} (c : ℕ) (item : Reader A) (spelled : A → Bytes) (good 
   unfolding upTo
   upTo-first m x xs s e f = rw (eq-eqb c c refl, e, f)
 
-  upTo-back : (m : ℕ) (xs : List A) (s : Bytes) → length xs ≤ m → every good xs ≡ true → ok s ≡ true → without c s ≡ true
+  upTo-back : (m : ℕ) (xs : List A) (s : Bytes) → length xs ≤ m → every good xs ≡ true → ok s ≡ true → beginsOther c s ≡ true
       → upTo m c item (gather (λ x. c ∷ spelled x) xs ++ s) ≡ got xs s
   unfolding gather every
   upTo-back m [] s h g o w = upTo-none m s w
@@ -132,14 +132,14 @@ module _ {A : Type 0} (c : ℕ) (item : Reader A) (spelled : A → Bytes) (good 
   gather-length [] = omega arith
   gather-length (x ∷ xs) = omega (arith, gather-length xs, length-append (spelled x) (gather (λ x. c ∷ spelled x) xs))
 
-  pub each-back : (xs : List A) (s : Bytes) → every good xs ≡ true → ok s ≡ true → without c s ≡ true → each c item (gather (λ x. c ∷ spelled x) xs ++ s) ≡ got xs s
+  pub each-back : (xs : List A) (s : Bytes) → every good xs ≡ true → ok s ≡ true → beginsOther c s ≡ true → each c item (gather (λ x. c ∷ spelled x) xs ++ s) ≡ got xs s
   each-back xs s g o w =
       upTo-back (length (gather (λ x. c ∷ spelled x) xs ++ s)) xs s (omega (arith, gather-length xs, length-append (gather (λ x. c ∷ spelled x) xs) s)) g o w
 
 -- ---- terms
 -- neither a digit nor a dot comes next
 unfoldable pub apart : Bytes → Bool
-apart s = noDigit s && without (code ".") s
+apart s = noDigit s && beginsOther (code ".") s
 
 dots : List ℕ → Bytes
 dots vs = gather (λ v. code "." ∷ spellNumber v) vs
@@ -157,7 +157,7 @@ sign-back false m s = unsigned (suc m) m s (omega arith)
 term-back : (t : WrittenTerm) (s : Bytes) → apart s ≡ true → term (writeTerm t ++ s) ≡ got t s
 unfolding term writeTerm apart dots noDigit isDigit
 term-back t s h =
-    let n : noDigit s ≡ true = and-left (noDigit s) (without (code ".") s) h in
+    let n : noDigit s ≡ true = and-left (noDigit s) (beginsOther (code ".") s) h in
     let minus : Bytes = cond (t .negative) (code "-" ∷ []) [] in
     ap term (append-assoc minus (spellNumber (t .magnitude) ++ dots (t .variables)) s
     ∙ ap (λ (r : Bytes). minus ++ r) (append-assoc (spellNumber (t .magnitude)) (dots (t .variables)) s))
@@ -165,7 +165,7 @@ term-back t s h =
     ∙ ap (λ (r : Read ℕ). next r (sized (t .negative))) (number-back (t .magnitude) (dots (t .variables) ++ s) (dots-apart (t .variables) s n))
     ∙ ap (λ (r : Read (List ℕ)). next r (named (t .negative) (t .magnitude)))
     (each-back (code ".") decimal spellNumber (λ v. true) noDigit (λ v s g. number-back v s) (λ r. refl) (t .variables) s (every-true (t .variables)) n
-    (and-right (noDigit s) (without (code ".") s) h))
+    (and-right (noDigit s) (beginsOther (code ".") s) h))
   where
     named : Bool → ℕ → List ℕ → Reader WrittenTerm
     named b m vs = λ r. got (record { negative = b; magnitude = m; variables = vs }) r
@@ -179,22 +179,22 @@ term-back t s h =
 -- ---- polynomials
 -- neither a digit nor a dot nor a space comes next
 unfoldable pub fieldEnds : Bytes → Bool
-fieldEnds s = apart s && without (code " ") s
+fieldEnds s = apart s && beginsOther (code " ") s
 
 spaces-apart : (ts : List WrittenTerm) (s : Bytes) → apart s ≡ true → apart (gather (λ u. code " " ∷ writeTerm u) ts ++ s) ≡ true
-unfolding gather apart noDigit without isDigit
+unfolding gather apart noDigit beginsOther isDigit
 spaces-apart [] s h = h
 spaces-apart (t ∷ ts) s h = refl
 
 terms-back : (t : WrittenTerm) (ts : List WrittenTerm) (s : Bytes) → fieldEnds s ≡ true → polynomial (writeField (t ∷ ts) ++ s) ≡ got (asWritten t ts) s
-unfolding polynomial writeField fieldEnds apart noDigit without isDigit
+unfolding polynomial writeField fieldEnds apart noDigit beginsOther isDigit
 terms-back t ts s h =
-    let a : apart s ≡ true = and-left (apart s) (without (code " ") s) h in
+    let a : apart s ≡ true = and-left (apart s) (beginsOther (code " ") s) h in
     let others : Bytes = gather (λ u. code " " ∷ writeTerm u) ts in
     ap polynomial (append-assoc (writeTerm t) others s)
     ∙ ap (λ (r : Read WrittenTerm). next r more) (term-back t (others ++ s) (spaces-apart ts s a))
     ∙ ap (λ (r : Read (List WrittenTerm)). next r (λ us s. got (asWritten t us) s))
-    (each-back (code " ") term writeTerm (λ u. true) apart (λ u s g. term-back u s) (λ r. refl) ts s (every-true ts) a (and-right (apart s) (without (code " ") s) h))
+    (each-back (code " ") term writeTerm (λ u. true) apart (λ u s g. term-back u s) (λ r. refl) ts s (every-true ts) a (and-right (apart s) (beginsOther (code " ") s) h))
   where
     more : WrittenTerm → Reader Written
     more u = λ s. next (each (code " ") term s) (λ us s. got (asWritten u us) s)
@@ -270,7 +270,7 @@ module _ (k : ℕ) where
   spelled-some b (t ∷ p) r = some-magnitude (writtenTerm t) (map writtenTerm p) (magnitude-some t (r .1) (r .2))
 
   pub spell-back : (b : ℕ) (p : Poly) → Reduced k b p → wholeField (spell k p) ≡ got (map writtenTerm p) []
-  unfolding fieldEnds apart noDigit without
+  unfolding fieldEnds apart noDigit beginsOther
   spell-back b p r =
       whole-end (spell k p) (map writtenTerm p)
       (ap polynomial (field-spelled p ∙ sym (append-nil (writeField (map writtenTerm p)))) ∙ field-back (map writtenTerm p) [] (spelled-some b p r) refl)

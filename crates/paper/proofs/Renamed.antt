@@ -70,8 +70,8 @@ unfolding every isVariable
 zeroed-in-range [] = refl
 zeroed-in-range (n ∷ ns) = zeroed-in-range ns
 
-abbrev factorsOf : List Pair → List Written
-factorsOf qs = map (λ q. q .factor) qs
+abbrev allFactors : List Pair → List Written
+allFactors qs = map (λ q. q .factor) qs
 
 module _ (f : Name → ℕ) where
   abbrev pub NoneBad : List Name → Type 0
@@ -100,7 +100,7 @@ module _ (f : Name → ℕ) where
       ap₂ _&&_ (term-range t (d .0)) (field-range p (d .1))
 
   factors-range : (qs : List (PairOf Name)) → NoneBad (gather (λ q. namesOf (q .factor)) qs)
-      → every inRange (factorsOf (map (renamedPair f) qs)) ≡ every inRange (factorsOf (map (renamedPair zeroed) qs))
+      → every inRange (allFactors (map (renamedPair f) qs)) ≡ every inRange (allFactors (map (renamedPair zeroed) qs))
   unfolding gather every renamedPair
   factors-range [] e = refl
   factors-range (q ∷ qs) e =

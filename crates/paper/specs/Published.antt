@@ -22,8 +22,8 @@ abbrev pub token : {A : Type 0} → Reader A → Reader A
 token read = do x ← read; spaces; give x
 
 -- a sign
-abbrev pub mark : ℕ → Reader (Unit {0})
-mark c = token (literal (c ∷ []))
+abbrev pub symbol : ℕ → Reader (Unit {0})
+symbol c = token (literal (c ∷ []))
 
 -- digits, taken by value: leading zeros are in the grammar
 unfoldable pub constant : Reader ℕ
@@ -89,7 +89,7 @@ one = record { negative = false; magnitude = 1; variables = [] } ∷ []
 
 unfoldable pub factor : Reader (WrittenOf Name)
 factor [] = got one []
-factor (b ∷ s) = cond (eqb b (code "*")) ((do spaces; mark (code "("); q ← poly; mark (code ")"); give q) s) (got one (b ∷ s))
+factor (b ∷ s) = cond (eqb b (code "*")) ((do spaces; symbol (code "("); q ← poly; symbol (code ")"); give q) s) (got one (b ∷ s))
 
 unfoldable pub summand : Reader (PairOf Name)
 summand = do i ← constant; q ← factor; give (record { index = i; factor = q })
@@ -105,20 +105,20 @@ unfoldable pub summands : Reader (List (PairOf Name))
 summands = do q ← summand; qs ← moreSummands; give (q ∷ qs)
 
 unfoldable pub addends : Reader (List (PairOf Name))
-addends = do j ← constant; mark (code ","); l ← constant; give (pairOf j one ∷ pairOf l one ∷ [])
+addends = do j ← constant; symbol (code ","); l ← constant; give (pairOf j one ∷ pairOf l one ∷ [])
 
 unfoldable pub multiplied : Reader (List (PairOf Name))
-multiplied = do j ← constant; mark (code ","); q ← poly; give (pairOf j q ∷ [])
+multiplied = do j ← constant; symbol (code ","); q ← poly; give (pairOf j q ∷ [])
 
 -- behind an id and a sign: pairs and the polynomial stated, nothing, or a variable and its polynomial
 abbrev pub linear : Reader (List (PairOf Name)) → ℕ → Reader Named
-linear pairs i = do qs ← pairs; mark (code ","); p ← poly; give (lin i p qs)
+linear pairs i = do qs ← pairs; symbol (code ","); p ← poly; give (lin i p qs)
 
 abbrev pub delete : ℕ → Reader Named
 delete i = give (del i)
 
 abbrev pub extend : ℕ → Reader Named
-extend i = do v ← name; mark (code ","); p ← poly; give (ext i v p)
+extend i = do v ← name; symbol (code ","); p ← poly; give (ext i v p)
 
 -- the sign and what it stands for; no two signs are the same
 abbrev pub Rule : Type 0

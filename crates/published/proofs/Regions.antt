@@ -24,7 +24,7 @@ use Rattle.terms.proofs.Decode.{decode-part, decode-behind, behind-within}
 use Rattle.paper.specs.Grammar.{Bytes, Reader}
 use Rattle.paper.specs.Statement.{WrittenOf, PairOf, renamedTerm, renamedField, within, isIndex, isVariable, isTerm, inRange, tooManyTerms, setOf}
 use Rattle.paper.specs.Rules.{first}
-use Rattle.paper.specs.Published.{Name, spaces, mark, constant, poly, one, factor, summand, pairOf}
+use Rattle.paper.specs.Published.{Name, spaces, symbol, constant, poly, one, factor, summand, pairOf}
 use Rattle.paper.specs.Named.{namesOf}
 use Rattle.written.specs.Worded.{signedWord, wordedTerm, worded, Holds}
 use Rattle.reader.specs.Places.{Got, Fails}
@@ -40,10 +40,10 @@ use Rattle.reader.proofs.Verdicts.{not-not, verdict-both, verdict-form, verdict
 use Rattle.names.specs.Names.{held, Holding, numberBy, badBy}
 use Rattle.named.specs.Reads.{numberIn, PolyAt, PolyIs}
 use Rattle.named.specs.declared.poly.PolyRead.{PolyRead}
-use Rattle.named.proofs.Tokens.{mark-here, mark-not}
+use Rattle.named.proofs.Tokens.{symbol-here, symbol-not}
 use Rattle.named.proofs.Naming.{any-append, number-variable, names-none}
 use Rattle.scratch.specs.Scratch.{factorAt, goalAt}
-use Rattle.published.specs.Pairs.{IdAt, IdIs, fieldRanged, fieldFew, summandRanged, summandFew, NamedAt, FactorAt, FactorIs, inParentheses, SummandIs, product}
+use Rattle.published.specs.Pairs.{IdAt, IdIs, fieldRanged, fieldFew, summandRanged, summandFew, NamedAt, FactorAt, FactorIs, inParentheses, SummandIs, multipliedPair}
 use Rattle.published.specs.declared.pairs.IdRead.{IdRead}
 use Rattle.published.specs.declared.pairs.SummandRead.{SummandRead}
 
@@ -151,21 +151,21 @@ factor-stops {read} {plain} {n} {s} {at} {room = room} {room′} {words} {words�
 -- ---- in parentheses
 module _ (s : Bytes) (at : ℕ) {opened : ℕ} (g : Got spaces s at tt opened) where
   pub unopened : standsAt s opened 40 ≡ false → Fails inParentheses s at opened
-  unopened q = fails-then spaces _ g (fails-first (mark 40) _ (mark-not s opened 40 (g .inside) q))
+  unopened q = fails-then spaces _ g (fails-first (symbol 40) _ (symbol-not s opened 40 (g .inside) q))
 
   module _ (here : standsAt s opened 40 ≡ true) {j : ℕ} (k : Got spaces s (opened + 1) tt j) where
     pub unread : {e : ℕ} → Fails poly s j e → Fails inParentheses s at e
-    unread f = fails-then spaces _ g (fails-then (mark 40) _ (mark-here s opened 40 here k) (fails-first poly _ f))
+    unread f = fails-then spaces _ g (fails-then (symbol 40) _ (symbol-here s opened 40 here k) (fails-first poly _ f))
 
     pub unclosed : {q : WrittenOf Name} {e : ℕ} → Got poly s j q e → standsAt s e 41 ≡ false → Fails inParentheses s at e
-    unclosed {e = e} p z = fails-then spaces _ g (fails-then (mark 40) _ (mark-here s opened 40 here k) (fails-then poly _ p (fails-first (mark 41) _ (mark-not s e 41 (p .inside) z))))
+    unclosed {e = e} p z = fails-then spaces _ g (fails-then (symbol 40) _ (symbol-here s opened 40 here k) (fails-then poly _ p (fails-first (symbol 41) _ (symbol-not s e 41 (p .inside) z))))
 
     pub closed : {plain : Bool} {n : ℕ} {room room′ : Bytes} {words′ : List ℕ} (r : PolyRead) {e : ℕ} → FactorAt poly plain n s j room room′ words′ r
         → standsAt s (r .end) 41 ≡ true → Got spaces s (r .end + 1) tt e
         → FactorAt inParentheses plain n s at room room′ words′ (record { why = r .why; end = e; terms = r .terms; names = r .names; bad = r .bad })
     closed r h z b = record {
       value = h .value;
-      taken = got-then spaces _ g (got-then (mark 40) _ (mark-here s opened 40 here k) (got-then poly _ (h .taken) (got-then (mark 41) _ (mark-here s (r .end) 41 z b) (got-give (h .value) (b .inside)))));
+      taken = got-then spaces _ g (got-then (symbol 40) _ (symbol-here s opened 40 here k) (got-then poly _ (h .taken) (got-then (symbol 41) _ (symbol-here s (r .end) 41 z b) (got-give (h .value) (b .inside)))));
       verdict = h .verdict;
       holds = h .holds;
       named = h .named;
@@ -223,7 +223,7 @@ module _ (s : Bytes) (at : ℕ) where
   unfolding summand
   id-stuck f = fails-first constant _ f
 
-  pub product-unread : {e : ℕ} → Fails constant s at e → Fails product s at e
+  pub product-unread : {e : ℕ} → Fails constant s at e → Fails multipliedPair s at e
   product-unread f = fails-first constant _ f
 
   module _ (i : IdRead) (h : IdAt s at i) where
@@ -257,15 +257,15 @@ module _ (s : Bytes) (at : ℕ) where
         (got-then constant _ (h .taken) (got-then factor _ (g .taken) (got-give (pairOf (h .value) (g .value)) (g .taken .inside))))
 
     -- behind a comma
-    pub comma-missing : standsAt s (i .end) 44 ≡ false → Fails product s at (i .end)
-    comma-missing q = fails-then constant _ (h .taken) (fails-first (mark 44) _ (mark-not s (i .end) 44 (h .taken .inside) q))
+    pub comma-missing : standsAt s (i .end) 44 ≡ false → Fails multipliedPair s at (i .end)
+    comma-missing q = fails-then constant _ (h .taken) (fails-first (symbol 44) _ (symbol-not s (i .end) 44 (h .taken .inside) q))
 
     module _ (here : standsAt s (i .end) 44 ≡ true) {j : ℕ} (k : Got spaces s (i .end + 1) tt j) where
-      pub product-stuck : {e : ℕ} → Fails poly s j e → Fails product s at e
-      product-stuck f = fails-then constant _ (h .taken) (fails-then (mark 44) _ (mark-here s (i .end) 44 here k) (fails-first poly _ f))
+      pub product-stuck : {e : ℕ} → Fails poly s j e → Fails multipliedPair s at e
+      product-stuck f = fails-then constant _ (h .taken) (fails-then (symbol 44) _ (symbol-here s (i .end) 44 here k) (fails-first poly _ f))
 
       pub product-took : {plain : Bool} {n : ℕ} {room room′ : Bytes} {words words′ : List ℕ} (f : PolyRead) → FactorAt poly plain n s j room room′ words′ f
           → Within factorAt goalAt words words′ → (why : ℕ) → why ≡ lesserOf (i .why) (f .why)
-          → SummandIs product plain n s at room room′ words words′ (record { index = i .value; terms = f .terms; end = f .end; why = why; names = f .names; bad = f .bad })
+          → SummandIs multipliedPair plain n s at room room′ words words′ (record { index = i .value; terms = f .terms; end = f .end; why = why; names = f .names; bad = f .bad })
       product-took f g w why c = pair-took f g w why c
-          (got-then constant _ (h .taken) (got-then (mark 44) _ (mark-here s (i .end) 44 here k) (got-then poly _ (g .taken) (got-give (pairOf (h .value) (g .value)) (g .taken .inside)))))
+          (got-then constant _ (h .taken) (got-then (symbol 44) _ (symbol-here s (i .end) 44 here k) (got-then poly _ (g .taken) (got-give (pairOf (h .value) (g .value)) (g .taken .inside)))))

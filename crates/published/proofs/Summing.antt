@@ -9,7 +9,7 @@ use Rattle.limits.specs.Verdicts.{ACCEPTED}
 use Rattle.paper.specs.Grammar.{Bytes, Read, got, stuck, next, give}
 use Rattle.paper.specs.Statement.{Written, Pair, WrittenOf, renamedField, renamedPair}
 use Rattle.paper.specs.Rules.{Store}
-use Rattle.paper.specs.Published.{Name, mark, constant, poly, pairOf, multiplied}
+use Rattle.paper.specs.Published.{Name, symbol, constant, poly, pairOf, multiplied}
 use Rattle.paper.specs.Named.{namesOf}
 use Rattle.written.specs.Worded.{Holds}
 use Rattle.reader.specs.Places.{Fails}
@@ -19,11 +19,11 @@ use Rattle.named.specs.Reads.{NamesAre, numberIn}
 use Rattle.scratch.specs.Scratch.{factorAt}
 use Rattle.sums.specs.declared.Sum.{Sum}
 use Rattle.sums.specs.Sums.{Summed}
-use Rattle.published.specs.Pairs.{summandRanged, summandFew, NamedAt, SummandAt, product}
+use Rattle.published.specs.Pairs.{summandRanged, summandFew, NamedAt, SummandAt, multipliedPair}
 use Rattle.published.specs.declared.pairs.SummandRead.{SummandRead}
 
 -- ---- PAC's product: one pair
-multiplied-by : (r : Bytes) → multiplied r ≡ next (product r) (λ q. give (q ∷ []))
+multiplied-by : (r : Bytes) → multiplied r ≡ next (multipliedPair r) (λ q. give (q ∷ []))
 unfolding multiplied
 multiplied-by r = go (constant r)
   where
@@ -37,9 +37,9 @@ multiplied-by r = go (constant r)
     second j (stuck t) = refl
 
     go : (x : Read ℕ)
-        → next x (λ j t. next (mark 44 t) (λ _ t. next (poly t) (λ q. give (pairOf j q ∷ []))))
-        ≡ next (next x (λ j t. next (mark 44 t) (λ _ t. next (poly t) (λ q. give (pairOf j q))))) (λ q. give (q ∷ []))
-    go (got j t) = second j (mark 44 t)
+        → next x (λ j t. next (symbol 44 t) (λ _ t. next (poly t) (λ q. give (pairOf j q ∷ []))))
+        ≡ next (next x (λ j t. next (symbol 44 t) (λ _ t. next (poly t) (λ q. give (pairOf j q))))) (λ q. give (q ∷ []))
+    go (got j t) = second j (symbol 44 t)
     go (stuck t) = refl
 
 alone : (b : Bool) → b ≡ (b && true)
@@ -47,11 +47,11 @@ alone true = refl
 alone false = refl
 
 module _ {s : Bytes} {at : ℕ} where
-  pub multiplied-stuck : {e : ℕ} → Fails product s at e → Fails multiplied s at e
-  multiplied-stuck f = record { reads = multiplied-by (drop at s) ∙ fails-first product (λ q. give (q ∷ [])) f .reads; onward = f .onward; inside = f .inside }
+  pub multiplied-stuck : {e : ℕ} → Fails multipliedPair s at e → Fails multiplied s at e
+  multiplied-stuck f = record { reads = multiplied-by (drop at s) ∙ fails-first multipliedPair (λ q. give (q ∷ [])) f .reads; onward = f .onward; inside = f .inside }
 
   pub multiplied-took : {k : ℕ} {store : Store} {plain : Bool} {n : ℕ} {room room′ : Bytes} {words′ words″ : List ℕ} {none sum : Sum} (q : SummandRead)
-      → SummandAt product plain n s at room room′ words′ q → Summed k store [] words′ none
+      → SummandAt multipliedPair plain n s at room room′ words′ q → Summed k store [] words′ none
       → (q .why ≡ ACCEPTED → q .bad ≡ false → (w : Written) → Holds w (q .terms) factorAt words′ → (qs : List Pair) → Summed k store qs words′ none
       → Summed k store (qs ++ (record { index = q .index; factor = w } ∷ [])) words″ sum)
       → NamedAt multiplied (every summandRanged) (every summandFew) (gather (λ q. namesOf (q .factor))) (λ f qs. Summed k store (map (renamedPair f) qs) words″ sum)
@@ -59,7 +59,7 @@ module _ {s : Bytes} {at : ℕ} where
   unfolding every gather renamedPair
   multiplied-took {k} {store} {plain} {n} {room} {room′} {words″ = words″} {sum = sum} q h u added = record {
     value = h .value ∷ [];
-    taken = record { reads = multiplied-by (drop at s) ∙ got-then product (λ q. give (q ∷ [])) (h .taken) (got-give (h .value ∷ []) (h .taken .inside)) .reads; onward = h .taken .onward; inside = h .taken .inside };
+    taken = record { reads = multiplied-by (drop at s) ∙ got-then multipliedPair (λ q. give (q ∷ [])) (h .taken) (got-give (h .value ∷ []) (h .taken .inside)) .reads; onward = h .taken .onward; inside = h .taken .inside };
     verdict = h .verdict ∙ ap₂ verdictOf (alone (summandRanged (h .value))) (alone (summandFew (h .value)));
     holds = λ a b.
         let x = h .holds a b in

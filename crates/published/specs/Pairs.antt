@@ -10,7 +10,7 @@ use Rattle.words.specs.Parts.{Within}
 use Rattle.paper.specs.Grammar.{Bytes, Reader, _>>=_, _>>_, give}
 use Rattle.paper.specs.Statement.{WrittenOf, PairOf, renamedField, renamedPair, isIndex, inRange, tooManyTerms}
 use Rattle.paper.specs.Rules.{Store}
-use Rattle.paper.specs.Published.{Name, spaces, mark, constant, poly, pairOf}
+use Rattle.paper.specs.Published.{Name, spaces, symbol, constant, poly, pairOf}
 use Rattle.paper.specs.Named.{namesOf}
 use Rattle.written.specs.Worded.{Holds}
 use Rattle.reader.specs.Places.{Got}
@@ -66,7 +66,7 @@ pub record FactorIs (read : Reader (WrittenOf Name)) (plain : Bool) (n : ℕ) (s
 
 -- behind a *
 abbrev pub inParentheses : Reader (WrittenOf Name)
-inParentheses = do spaces; mark (code "("); q ← poly; mark (code ")"); give q
+inParentheses = do spaces; symbol (code "("); q ← poly; symbol (code ")"); give q
 
 -- ---- a pair, its factor in the factor's region
 abbrev pub SummandAt : Reader (PairOf Name) → Bool → ℕ → Bytes → ℕ → Bytes → Bytes → List ℕ → SummandRead → Type 0
@@ -79,8 +79,8 @@ pub record SummandIs (read : Reader (PairOf Name)) (plain : Bool) (n : ℕ) (s :
   pub kept : Within factorAt goalAt words words′
 
 -- the one of PAC's product
-abbrev pub product : Reader (PairOf Name)
-product = do j ← constant; mark (code ","); q ← poly; give (pairOf j q)
+abbrev pub multipliedPair : Reader (PairOf Name)
+multipliedPair = do j ← constant; symbol (code ","); q ← poly; give (pairOf j q)
 
 -- ---- pairs, with their sum over a store at k
 pub record SumIs (k : ℕ) (store : Store) (pairs : Reader (List (PairOf Name))) (plain : Bool) (n : ℕ) (s : Bytes) (at : ℕ) (room room′ : Bytes) (words words′ : List ℕ) (r : SumRead) : Type 0 where

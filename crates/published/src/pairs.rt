@@ -14,7 +14,7 @@ ghost use Rattle.names.specs.Names.{Holding, hintCount};
 ghost use Rattle.scratch.specs.Scratch.{factorAt, goalAt, Kept};
 ghost use Rattle.table.specs.Table.{storeOfColumns};
 ghost use Rattle.sums.specs.Sums.{PoolHolds, Summed};
-ghost use Rattle.published.specs.Pairs.{IdIs, FactorIs, inParentheses, SummandIs, product, SumIs};
+ghost use Rattle.published.specs.Pairs.{IdIs, FactorIs, inParentheses, SummandIs, multipliedPair, SumIs};
 use named::poly::PolyRead;
 use named::poly::read_poly;
 use named::token::constant_at;
@@ -248,7 +248,7 @@ fn read_product(
     scratch: &mut [u64],
 ) -> SummandRead
     requires { ⌜ Holding n (now room) × (hintCount ≤ length (now hints)) × (at ≤ length (now s)) × (leastScratch ≤ length (now scratch)) ⌝ }
-    ensures { λ r. ⌜ SummandIs product plain n (now (s .entry)) at (now (room .entry)) (now (room .exit)) (now (scratch .entry)) (now (scratch .exit)) r ⌝ }
+    ensures { λ r. ⌜ SummandIs multipliedPair plain n (now (s .entry)) at (now (room .entry)) (now (room .exit)) (now (scratch .entry)) (now (scratch .exit)) r ⌝ }
 {
     let i = read_id(s, at);
     if i.why == limits::FORM {

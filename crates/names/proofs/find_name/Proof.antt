@@ -3,12 +3,12 @@
 use Prim.Native.Nat.{_-_, _≤_}
 use native.Mathlib.Omega.{arith}
 use borrow.Author.Needs.{needs}
-use Rattle.names.proofs.Rooms.{Passed, found, passed-more, passed-all}
+use Rattle.names.proofs.Rooms.{NotBefore, found, passed-more, passed-all}
 use Rattle.names.proofs.find_name.Statement.{statement}
 use Rattle.names.proofs.find_name.Tie as tie
 
 abbrev Inv-loop : tie.InvT-loop
-Inv-loop room n s i₀ i = (i ≤ n) × Passed n room s i
+Inv-loop room n s i₀ i = (i ≤ n) × NotBefore n room s i
 
 abbrev μ-loop : tie.MeasureT-loop
 μ-loop room n s i₀ i = n - i

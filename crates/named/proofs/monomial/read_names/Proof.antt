@@ -13,7 +13,7 @@ use Rattle.reader.specs.Fields.{standsAt}
 use Rattle.reader.proofs.Following.{passed-stop}
 use Rattle.reader.proofs.Fields.{stands, each-over}
 use Rattle.named.specs.Reads.{NameAt}
-use Rattle.named.proofs.Factors.{stopped, went-on, no-form, factor, NamesTo, names-start, names-stuck, names-more}
+use Rattle.named.proofs.Factors.{stopped, went-on, no-form, nextName, NamesTo, names-start, names-stuck, names-more}
 use Rattle.named.proofs.monomial.read_names.Statement.{statement}
 use Rattle.named.proofs.monomial.read_names.Tie as tie
 
@@ -106,7 +106,7 @@ returns-2 c =
     let a = c .before .before .before .before .before .before .args in
     inr (record {
       value = l .inv .0 .items;
-      taken = passed-stop (code "*") factor (a .s .now) (a .at) (l .i) (l .inv .0) (each-over (code "*") factor (a .s .now) (l .i) (sym (c .before .stands-at .ensures) ∙ c .if1 .left));
+      taken = passed-stop (code "*") nextName (a .s .now) (a .at) (l .i) (l .inv .0) (each-over (code "*") nextName (a .s .now) (l .i) (sym (c .before .stands-at .ensures) ∙ c .if1 .left));
       why = refl;
       set = l .inv .0 .holds .0;
       names = l .inv .0 .holds .1;

@@ -7,44 +7,38 @@ use Prim.Native.String.{String}
 use Rattle.ground.specs.Lists.{every, any, total, gather}
 use Rattle.limits.specs.Limits.{hostPool, hostScratch}
 use Rattle.algebra.specs.Polynomial.{bit, has, members, vars, equal, times, products, put, insert, reduce, product, extension}
 use Rattle.paper.specs.Statement.{modulo, ring, renamedTerm, renamedField, renamedPair, renamed, newIndex, namedIndices, forgets, fields, isRing, isIndex, isVariable, isTerm, inRange, numbersInRange, tooManyTerms, setOf, asTerm, reduced}
 use Rattle.paper.specs.Grammar.{bytes, onFirst, endedBy, literal, end, upTo, isDigit, digits, decimal, asWritten}
 use Rattle.paper.specs.Rules.{first, stored, find, remove, without, storedTerms, start, place, entries, shows, showsAll, makesSeen, combination, productCount, overfull, rules, holdsGoal, after}
 use Rattle.paper.specs.Answer.{Answer, indexOf, judge, judgeItem, report, ending, run, capacityOf, unread}
 use Rattle.paper.specs.Published.{Name, isSpace, isLetter, spaces, constant, nameRest, name, monomial, minus, upToMonomials, poly, constraint, target, factor, summand, summands, addends, multiplied, stepRules, ruleOf, proofStep, afterSpaces, ifSome, pieces, readBy, targetItems}
 use Rattle.paper.specs.Named.{Texts, namesOf, namesIn, readable, plainNumber, isPlain, sameName, placeIn, withNames, numbering, badName, namedRules, numbered, namedItems, publishedItems, publishedAnswer}
+use Rattle.promises.specs.Samples.{Sample, numbers}
 
 abbrev threeTexts : String → String → String → Texts
 threeTexts constraints goals steps = record { constraints = bytes constraints; target = bytes goals; proof = bytes steps }
 
-unfoldable pub numbers : Answer → List ℕ
-numbers a = a .verdict ∷ a .line ∷ a .index ∷ a .products ∷ a .polynomials ∷ a .terms ∷ []
-
 -- ---- short texts at k = 8, in the host call's room, and their six numbers
-pub record Sample : Type 0 where
-  pub found : List ℕ
-  pub said : List ℕ
-
-unfoldable pub texts : String → String → String → List ℕ → Sample
-texts constraints goals steps six = record { found = numbers (publishedAnswer 8 (threeTexts constraints goals steps) hostPool hostScratch); said = six }
+unfoldable pub triple : String → String → String → List ℕ → Sample
+triple constraints goals steps six = record { found = numbers (publishedAnswer 8 (threeTexts constraints goals steps) hostPool hostScratch); said = six }
 
 -- white space of all kinds and omitted factors; a sum and a product of PAC; 1d among constraints is the polynomial d;
 -- a coefficient without its *; an id alone; a name with a leading zero is no number
-unfoldable pub samples : List Sample
-samples =
-    texts "\r\n1\tx ;\r\n" "2 *\n x;" "3 % 1 + 1 , 2*x ;\r\n" (0 ∷ 0 ∷ 0 ∷ 2 ∷ 2 ∷ 2 ∷ [])
-    ∷ texts "1 a;" "2*a;" "3 + 1, 1, 2*a;" (0 ∷ 0 ∷ 0 ∷ 2 ∷ 2 ∷ 2 ∷ [])
-    ∷ texts "1 a;" "2*a;" "3 * 1, 2, 2*a;" (0 ∷ 0 ∷ 0 ∷ 1 ∷ 2 ∷ 2 ∷ [])
-    ∷ texts "1d;" "d;" "1 d;" (0 ∷ 0 ∷ 0 ∷ 0 ∷ 0 ∷ 0 ∷ [])
-    ∷ texts "1 2a;" "a;" "" (4 ∷ 1 ∷ 0 ∷ 0 ∷ 0 ∷ 0 ∷ [])
-    ∷ texts "1 a;12;" "a;" "" (4 ∷ 2 ∷ 0 ∷ 0 ∷ 1 ∷ 1 ∷ [])
-    ∷ texts "1 x1;" "x01;" "" (16 ∷ 2 ∷ 0 ∷ 0 ∷ 1 ∷ 1 ∷ [])
+unfoldable pub publishedSamples : List Sample
+publishedSamples =
+    triple "\r\n1\tx ;\r\n" "2 *\n x;" "3 % 1 + 1 , 2*x ;\r\n" (0 ∷ 0 ∷ 0 ∷ 2 ∷ 2 ∷ 2 ∷ [])
+    ∷ triple "1 a;" "2*a;" "3 + 1, 1, 2*a;" (0 ∷ 0 ∷ 0 ∷ 2 ∷ 2 ∷ 2 ∷ [])
+    ∷ triple "1 a;" "2*a;" "3 * 1, 2, 2*a;" (0 ∷ 0 ∷ 0 ∷ 1 ∷ 2 ∷ 2 ∷ [])
+    ∷ triple "1d;" "d;" "1 d;" (0 ∷ 0 ∷ 0 ∷ 0 ∷ 0 ∷ 0 ∷ [])
+    ∷ triple "1 2a;" "a;" "" (4 ∷ 1 ∷ 0 ∷ 0 ∷ 0 ∷ 0 ∷ [])
+    ∷ triple "1 a;12;" "a;" "" (4 ∷ 2 ∷ 0 ∷ 0 ∷ 1 ∷ 1 ∷ [])
+    ∷ triple "1 x1;" "x01;" "" (16 ∷ 2 ∷ 0 ∷ 0 ∷ 1 ∷ 1 ∷ [])
     ∷ []
 
 -- every one comes out as it says
-pub all-as-said : map (λ s. s .found) samples ≡ map (λ s. s .said) samples
-unfolding bit has members vars equal times products put insert reduce product extension every any total gather renamedTerm renamedField renamedPair renamed newIndex namedIndices forgets fields isRing isIndex isVariable isTerm inRange numbersInRange tooManyTerms setOf asTerm reduced bytes onFirst endedBy literal end upTo isDigit digits decimal asWritten first stored find remove without storedTerms start place entries shows showsAll makesSeen combination productCount overfull rules holdsGoal after indexOf judge judgeItem report ending run capacityOf unread isSpace isLetter spaces constant nameRest name monomial minus upToMonomials poly constraint target factor summand summands addends multiplied stepRules ruleOf proofStep afterSpaces ifSome pieces readBy targetItems namesOf namesIn readable plainNumber isPlain sameName placeIn withNames numbering badName namedRules numbered namedItems publishedItems publishedAnswer numbers texts samples
-all-as-said = refl
+pub published-as-said : map (λ s. s .found) publishedSamples ≡ map (λ s. s .said) publishedSamples
+unfolding bit has members vars equal times products put insert reduce product extension every any total gather renamedTerm renamedField renamedPair renamed newIndex namedIndices forgets fields isRing isIndex isVariable isTerm inRange numbersInRange tooManyTerms setOf asTerm reduced bytes onFirst endedBy literal end upTo isDigit digits decimal asWritten first stored find remove without storedTerms start place entries shows showsAll makesSeen combination productCount overfull rules holdsGoal after indexOf judge judgeItem report ending run capacityOf unread isSpace isLetter spaces constant nameRest name monomial minus upToMonomials poly constraint target factor summand summands addends multiplied stepRules ruleOf proofStep afterSpaces ifSome pieces readBy targetItems namesOf namesIn readable plainNumber isPlain sameName placeIn withNames numbering badName namedRules numbered namedItems publishedItems publishedAnswer numbers triple publishedSamples
+published-as-said = refl
 
 -- ---- PAC's resolution step, which derives a clause from two by an extension variable; its names are numbered first, or each use of one reads the texts again
 unfoldable pub resolution : Texts
@@ -64,10 +58,10 @@ resolution-names = (refl, refl)
 
 resolution-numbering : numbering resolutionNames ≡ placeIn fourNames
 unfolding numbering
-resolution-numbering = ap₂ numberBy (resolution-names .0) (resolution-names .1)
+resolution-numbering = ap₂ plainOrPlace (resolution-names .0) (resolution-names .1)
   where
-    numberBy : Bool → List Name → Name → ℕ
-    numberBy b ns n = cond b (plainNumber n) (placeIn ns n)
+    plainOrPlace : Bool → List Name → Name → ℕ
+    plainOrPlace b ns n = cond b (plainNumber n) (placeIn ns n)
 
 abbrev runBy : (Name → ℕ) → List ℕ
 runBy f = numbers (run (capacityOf hostPool) (after start (ring (modulo 8))) 0 (map (numbered f) (namedItems resolution)))
