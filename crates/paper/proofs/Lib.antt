@@ -14,6 +14,7 @@ pub mod ReadBack
 pub mod SpelledMeaning
 pub mod Verdicts
 pub mod Names
+pub mod PlainSpelled
 pub mod LinesBack
 pub mod PublishedReads
 pub mod Renamed

@@ -11,10 +11,10 @@ use native.Mathlib.Omega.{arith}
 use lib.Dec.{eqb}
 use lib.ListN.{length, drop, getD, drop-of-length-le}
 use lib.Seq.{drop-cons}
-use Rattle.paper.specs.Grammar.{Bytes, Read, got, stuck, Reader, next, _>>=_, _>>_, give, isDigit, digits}
+use Rattle.paper.specs.Grammar.{Bytes, Read, got, stuck, Reader, next, _>>=_, _>>_, give, isDigit, digits, literal}
 use Rattle.paper.specs.Statement.{TermOf}
-use Rattle.paper.specs.Published.{Name, isSpace, isLetter, spaces, token, constant, nameRest, name, moreNames, monomial, upToMonomials, moreMonomials}
-use Rattle.paper.proofs.Reading.{clash, parted, Takes, After, byte, after-none, after-more, after-least, after-length, takes-then, takes-give, takes-bytes, takes-digits, takes-each}
+use Rattle.paper.specs.Published.{Name, isSpace, isLetter, spaces, token, symbol, constant, nameRest, name, moreNames, monomial, minus, upToMonomials, moreMonomials, poly, one, factor, summand}
+use Rattle.paper.proofs.Reading.{clash, parted, Takes, After, byte, after-none, after-more, after-least, after-length, takes-then, takes-give, takes-bytes, takes-digits, takes-each, takes-literal}
 
 -- ---- byte by byte
 module _ (s : Bytes) (i : ℕ) where
@@ -234,3 +234,52 @@ module _ (s : Bytes) (i : ℕ) where
   pub monomials-end : length s ≤ i → moreMonomials (drop i s) ≡ got [] (drop i s)
   unfolding upToMonomials
   monomials-end h = rw (drop-of-length-le s h)
+
+-- ---- what polynomials and summands take
+takes-minus : Takes byte 0 minus
+unfolding minus
+takes-minus [] x r e = let q : [] ≡ r = cc in rw (← q) (after-none [])
+takes-minus (b ∷ s) x r e = go (eqb b (code "-")) e
+  where
+    go : (t : Bool) → cond t ((do spaces; give true) s) (got false (b ∷ s)) ≡ got x r → After byte 0 (b ∷ s) r
+    go true e = after-least (omega arith) (after-more refl (takes-then spaces _ takes-spaces (λ _. takes-give true) s x r e))
+    go false e = let q : (b ∷ s) ≡ r = cc in rw (← q) (after-none (b ∷ s))
+
+takes-monomials : (n : ℕ) → Takes byte 0 (upToMonomials n)
+unfolding upToMonomials
+takes-monomials zero s x r e = let q : s ≡ r = cc in rw (← q) (after-none s)
+takes-monomials (suc n) [] x r e = let q : [] ≡ r = cc in rw (← q) (after-none [])
+takes-monomials (suc n) (b ∷ s) x r e = go (isSign b) e (takes-monomials n)
+  where
+    go : (t : Bool) → cond t ((do spaces; m ← monomial (eqb b (code "-")); ms ← upToMonomials n; give (m ∷ ms)) s) (got [] (b ∷ s)) ≡ got x r → Takes byte 0 (upToMonomials n)
+        → After byte 0 (b ∷ s) r
+    go true e ih =
+        after-least (omega arith)
+        (after-more refl
+        (takes-then spaces _ takes-spaces (λ _. takes-then (monomial (eqb b (code "-"))) _ (takes-monomial (eqb b (code "-"))) (λ m. takes-then (upToMonomials n) _ ih (λ ms. takes-give (m ∷ ms)))) s x r e))
+    go false e ih = let q : (b ∷ s) ≡ r = cc in rw (← q) (after-none (b ∷ s))
+
+takes-poly : Takes byte 1 poly
+unfolding poly
+takes-poly = takes-then minus _ takes-minus (λ n. takes-then (monomial n) _ (takes-monomial n) (λ m. takes-then moreMonomials _ (λ s. takes-monomials (length s) s) (λ ms. takes-give _)))
+
+takes-symbol : (c : ℕ) → Takes byte 1 (symbol c)
+takes-symbol c = takes-token (literal (c ∷ [])) (takes-literal (c ∷ []))
+
+takes-pair-factor : Takes byte 0 factor
+unfolding factor
+takes-pair-factor [] x r e = let q : [] ≡ r = cc in rw (← q) (after-none [])
+takes-pair-factor (b ∷ s) x r e = go (eqb b (code "*")) e
+  where
+    inside : Takes byte 3 (do spaces; symbol (code "("); q ← poly; symbol (code ")"); give q)
+    inside = takes-then spaces _ takes-spaces (λ _. takes-then (symbol (code "(")) _ (takes-symbol (code "("))
+        (λ _. takes-then poly _ takes-poly (λ q. takes-then (symbol (code ")")) _ (takes-symbol (code ")")) (λ _. takes-give q))))
+
+    go : (t : Bool) → cond t ((do spaces; symbol (code "("); q ← poly; symbol (code ")"); give q) s) (got one (b ∷ s)) ≡ got x r → After byte 0 (b ∷ s) r
+    go true e = after-least (omega arith) (after-more refl (inside s x r e))
+    go false e = let q : (b ∷ s) ≡ r = cc in rw (← q) (after-none (b ∷ s))
+
+-- a summand behind a +
+pub takes-summand : Takes byte 1 (do spaces; summand)
+unfolding summand
+takes-summand = takes-then spaces _ takes-spaces (λ _. takes-then constant _ takes-constant (λ i. takes-then factor _ takes-pair-factor (λ q. takes-give _)))

@@ -11,8 +11,8 @@ use Rattle.limits.specs.Limits.{textBytes, leastPool, leastScratch}
 use Rattle.limits.specs.Verdicts.{ACCEPTED, SHORT, LONGTEXT, NUMBER}
 use Rattle.paper.specs.Statement.{Statement, modulo, ring, isRing}
 use Rattle.paper.specs.Rules.{State, start, after}
-use Rattle.paper.specs.Answer.{Answer, run, capacityOf, unread, statementsOf, acceptedFrom, productsIn, introducedPolynomials, deletedPolynomials, introducedTerms, deletedTerms}
-use Rattle.paper.specs.Named.{Texts, publishedItems, publishedAnswer}
+use Rattle.paper.specs.Answer.{Answer, run, capacityOf, unread, productsIn, introducedPolynomials, deletedPolynomials, introducedTerms, deletedTerms}
+use Rattle.paper.specs.Named.{Texts, publishedItems, publishedAnswer, publishedStatements, publishedAccepted}
 use Rattle.paper.proofs.Course.{ran}
 use Rattle.paper.proofs.Accepted.{SoundAt, sound-behind}
 use Rattle.paper.proofs.Counts.{counted-behind}
@@ -26,10 +26,6 @@ pub record SumsOver (k : ℕ) (a : Answer) (h : List Statement) : Type 0 where
   pub polynomials : a .polynomials + deletedPolynomials h ≡ introducedPolynomials k h
   pub terms : a .terms + deletedTerms k h ≡ introducedTerms k h
 
--- the statements that were accepted, the newest first
-unfoldable pub publishedAccepted : ℕ → Texts → ℕ → List Statement
-publishedAccepted k t pool = acceptedFrom (capacityOf pool) (behindRing k) [] (publishedItems t)
-
 module _ (k : ℕ) (t : Texts) (pool scratch : ℕ) where
   -- what holds of every answer that does not read the texts, and of the run, holds of the answer
   by-published : (P : Answer → Type 0) → P (unread SHORT) → P (unread LONGTEXT) → (isRing (modulo k) ≡ false → P (unread NUMBER))
@@ -39,13 +35,13 @@ module _ (k : ℕ) (t : Texts) (pool scratch : ℕ) where
       by-cond P (ltb pool leastPool || ltb scratch leastScratch) (λ _. short)
       (λ _. by-cond P (ltb textBytes (length (t .constraints) + length (t .target) + length (t .proof))) (λ _. long) (λ _. by-cond P (isRing (modulo k)) (λ _. whole) out))
 
-  pub published-sound : publishedAnswer k t pool scratch .verdict ≡ ACCEPTED → SoundAt k (statementsOf (publishedItems t))
-  unfolding unread
+  pub published-sound : publishedAnswer k t pool scratch .verdict ≡ ACCEPTED → SoundAt k (publishedStatements t)
+  unfolding unread publishedStatements
   published-sound =
-      by-published (λ (a : Answer). a .verdict ≡ ACCEPTED → SoundAt k (statementsOf (publishedItems t)))
+      by-published (λ (a : Answer). a .verdict ≡ ACCEPTED → SoundAt k (publishedStatements t))
       (λ e. absurd (omega arith)) (λ e. absurd (omega arith)) (λ _ e. absurd (omega arith)) whole
     where
-      whole : run (capacityOf pool) (behindRing k) 0 (publishedItems t) .verdict ≡ ACCEPTED → SoundAt k (statementsOf (publishedItems t))
+      whole : run (capacityOf pool) (behindRing k) 0 (publishedItems t) .verdict ≡ ACCEPTED → SoundAt k (publishedStatements t)
       whole e =
           let r = ran (capacityOf pool) (behindRing k) 0 (publishedItems t) in
           subst (SoundAt k) (r .all e) (sound-behind (capacityOf pool) k (r .went) (r .phase e) (r .reached e))

@@ -1,53 +1,27 @@
 -- The answer for published texts is the answer for the line text that they stand for, whose lines count from the ring's. Assumes nothing.
-use mathlib.Core.Path.{_≡_, refl, sym, ap, _∙_}
+use mathlib.Core.Path.{_≡_, refl, sym, ap, ap₂, _∙_}
 use mathlib.Core.Bool.{Bool, true, false, _&&_, _||_, not, cond}
 use mathlib.Core.List.{List, [], _∷_, _++_, map}
-use Prim.Native.Nat.{ℕ, suc, _+_, _-_, _≤_}
+use Prim.Native.Nat.{ℕ, suc, _+_, _-_}
 use native.Mathlib.Omega.{arith}
-use lib.Dec.{leb, ltb, eqb}
+use lib.Dec.{ltb, eqb}
 use lib.ListN.{length}
 use borrow.Author.Tests.{leb-true, le-ltb}
 use Rattle.ground.specs.Lists.{any, every, total, gather}
-use Rattle.ground.proofs.Tests.{and-left, and-right}
+use Rattle.ground.proofs.Tests.{and-left, and-right, and-both}
 use Rattle.limits.specs.Limits.{lineBytes, textBytes, leastPool, leastScratch}
 use Rattle.limits.specs.Verdicts.{ACCEPTED, SHORT, LONGTEXT, NUMBER, NOGOAL, NOTREACHED}
 use Rattle.paper.specs.Statement.{Statement, modulo, ring, renamed, newIndex, namedIndices, forgets, fields, isRing, numbersInRange}
 use Rattle.paper.specs.Grammar.{Bytes, Read, got, stuck}
 use Rattle.paper.specs.Rules.{first, steps, State, start, without, storedTerms, place, entries, productCount, overfull, writtenRules, rules, after}
-use Rattle.paper.specs.Answer.{Answer, Outcome, stands, refused, judge, Item, judgeItem, itemOf, items, report, ending, run, capacityOf, unread, answer, ifRead, statementsOf}
+use Rattle.paper.specs.Answer.{Answer, Outcome, stands, refused, judge, Item, judgeItem, itemOf, items, report, ending, run, capacityOf, unread, answer, ifRead, statementsOf, statements}
 use Rattle.paper.specs.Published.{Name, Named, NamedItem}
-use Rattle.paper.specs.Named.{namesIn, readable, numbering, badName, namedRules, numbered, Texts, namedItems, publishedItems, publishedAnswer}
-use Rattle.paper.specs.LineText.{writeLine, lineText}
+use Rattle.paper.specs.Named.{namesIn, readable, numbering, badName, namedRules, numbered, Texts, namedItems, allNames, publishedItems, publishedAnswer, publishedStatements}
+use Rattle.paper.specs.LineText.{writeLine, lineText, isRead, shortLine, HasLineText, oneLess}
 use Rattle.paper.proofs.Running.{judge-stands, item-read, run-stands, run-refused}
 use Rattle.paper.proofs.LinesBack.{hasLine, writtenLine, line-back, lines-back}
 use Rattle.paper.proofs.PublishedReads.{saysLine, items-say}
 use Rattle.paper.proofs.Renamed.{line-renamed, none-append, written-same}
-
--- ---- texts that a line text stands for
--- it can be read, and is not too long
-unfoldable pub isRead : NamedItem → Bool
-isRead i = not (i .long) && elim (i .reads) [ got st r ↦ true | stuck r ↦ false ]
-
-unfoldable pub shortLine : Statement → Bool
-shortLine st = leb (length (writeLine st)) lineBytes
-
-unfoldable pub allNames : Texts → List Name
-allNames t = gather namesIn (readable (namedItems t))
-
-pub record HasLineText (k : ℕ) (t : Texts) : Type 0 where
-  -- every statement can be read
-  pub statements : every isRead (namedItems t) ≡ true
-  -- no name is bad
-  pub names : any (badName (numbering (allNames t))) (allNames t) ≡ false
-  -- no line is too long
-  pub lines : every shortLine (ring (modulo k) ∷ statementsOf (publishedItems t)) ≡ true
-  -- nor are the three texts, nor the line text
-  pub texts : length (t .constraints) + length (t .target) + length (t .proof) ≤ textBytes
-  pub text : length (lineText k t) ≤ textBytes
-
--- without the ring's line
-unfoldable pub oneLess : Answer → Answer
-oneLess a = record { verdict = a .verdict; line = a .line - 1; index = a .index; products = a .products; polynomials = a .polynomials; terms = a .terms }
 
 -- ---- one item
 line-judged : (capacity : ℕ) (s : State) (st : Statement) → hasLine st ≡ true → shortLine st ≡ true
@@ -187,30 +161,30 @@ short-less : unread SHORT ≡ oneLess (unread SHORT)
 unfolding unread oneLess
 short-less = refl
 
-pub items-of-lines : (k : ℕ) (t : Texts) → items (lineText k t) ≡ map itemOf (map writtenLine (ring (modulo k) ∷ statementsOf (publishedItems t)))
+pub items-of-lines : (k : ℕ) (t : Texts) → items (lineText k t) ≡ map itemOf (map writtenLine (ring (modulo k) ∷ publishedStatements t))
 unfolding items lineText
-items-of-lines k t = ap (map itemOf) (lines-back (ring (modulo k) ∷ statementsOf (publishedItems t)))
+items-of-lines k t = ap (map itemOf) (lines-back (ring (modulo k) ∷ publishedStatements t))
 
 module _ (k : ℕ) (t : Texts) (h : HasLineText k t) where
   fit : Fit (numbering (allNames t)) (namedItems t)
-  unfolding allNames publishedItems every
+  unfolding publishedItems publishedStatements every
   fit = record {
     read = h .statements;
     says = items-say t;
     named = h .names;
-    short = and-right (shortLine (ring (modulo k))) (every shortLine (statementsOf (publishedItems t))) (h .lines);
+    short = and-right (shortLine (ring (modulo k))) (every shortLine (publishedStatements t)) (h .lines);
   }
 
   ring-judged : (capacity : ℕ) → judgeItem capacity start (itemOf (writtenLine (ring (modulo k)))) ≡ judge capacity start (cond (isRing (modulo k)) ACCEPTED NUMBER) (ring (modulo k))
   unfolding every hasLine
   ring-judged capacity =
-      line-judged capacity start (ring (modulo k)) refl (and-left (shortLine (ring (modulo k))) (every shortLine (statementsOf (publishedItems t))) (h .lines))
+      line-judged capacity start (ring (modulo k)) refl (and-left (shortLine (ring (modulo k))) (every shortLine (publishedStatements t)) (h .lines))
       ∙ ap (λ (w : ℕ). judge capacity start w (ring (modulo k))) (ring-written k)
 
   -- behind a ring in range the statements are run, and one out of range refuses
   runs-alike : (capacity : ℕ)
       → cond (isRing (modulo k)) (run capacity (after start (ring (modulo k))) 0 (publishedItems t)) (unread NUMBER) ≡ oneLess (run capacity start 0 (items (lineText k t)))
-  unfolding publishedItems allNames linesOf
+  unfolding publishedItems publishedStatements linesOf
   runs-alike capacity =
       go (isRing (modulo k)) (ring-judged capacity) ∙ ap (λ (is : List Item). oneLess (run capacity start 0 is)) (sym (items-of-lines k t))
     where
@@ -247,3 +221,24 @@ module _ (k : ℕ) (t : Texts) (h : HasLineText k t) where
       go : (b : Bool) → cond b (unread SHORT) whole ≡ oneLess (cond b (unread SHORT) lines)
       go true = short-less
       go false = runs-alike (capacityOf pool)
+
+-- ---- the line text says the ring's statement and those of the texts
+reads-back : (sts : List Statement) → every hasLine sts ≡ true → statementsOf (map itemOf (map writtenLine sts)) ≡ sts
+unfolding statementsOf gather every itemOf
+reads-back [] h = refl
+reads-back (st ∷ sts) h =
+    ap₂ (λ (r : Read Statement) (l : List Statement). ifRead r ++ l) (line-back st (and-left (hasLine st) (every hasLine sts) h)) (reads-back sts (and-right (hasLine st) (every hasLine sts) h))
+
+said-lines : (f : Name → ℕ) (is : List NamedItem) → every saysLine is ≡ true → every hasLine (statementsOf (map (numbered f) is)) ≡ true
+unfolding statementsOf gather every numbered saysLine
+said-lines f [] h = refl
+said-lines f (i ∷ is) h = go (i .reads) (and-left (saysLine i) (every saysLine is) h) (said-lines f is (and-right (saysLine i) (every saysLine is) h))
+  where
+    go : (r : Read Named) → elim r [ got st t ↦ hasLine st | stuck t ↦ true ] ≡ true → every hasLine (statementsOf (map (numbered f) is)) ≡ true
+        → every hasLine (ifRead (elim r [ got st t ↦ got (renamed f st) t | stuck t ↦ stuck t ]) ++ statementsOf (map (numbered f) is)) ≡ true
+    go (got st t) e m = and-both (hasLine (renamed f st)) _ (line-renamed f st ∙ e) m
+    go (stuck t) e m = m
+
+pub line-text-says : (k : ℕ) (t : Texts) → statements (lineText k t) ≡ ring (modulo k) ∷ publishedStatements t
+unfolding statements publishedStatements publishedItems every hasLine
+line-text-says k t = ap statementsOf (items-of-lines k t) ∙ reads-back (ring (modulo k) ∷ publishedStatements t) (said-lines (numbering (allNames t)) (namedItems t) (items-say t))

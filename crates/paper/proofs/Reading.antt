@@ -204,7 +204,7 @@ literal-inside (c ∷ w) (b ∷ s) x r e = go (eqb b c) refl e (literal-inside w
     go true d e ih = let h = ih e in (omega arith, h .1, ap₂ _∷_ (eqb-true b c d) (h .2))
     go false d e ih = absurd (clash e)
 
-takes-literal : (w : Bytes) → Takes byte (length w) (literal w)
+pub takes-literal : (w : Bytes) → Takes byte (length w) (literal w)
 takes-literal w s x r e =
     let h = literal-inside w s x r e in
     record { taken = length w; least = omega arith; inside = h .0; rest = h .1; clear = every-true (take (length w) s) }

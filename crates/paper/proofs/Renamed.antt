@@ -4,14 +4,15 @@ use mathlib.Core.Bool.{Bool, true, false, _&&_, _||_, not, cond}
 use mathlib.Core.List.{List, [], _∷_, _++_, map}
 use Prim.Native.Nat.{ℕ}
 use lib.Dec.{ltb}
-use lib.ListN.{length}
+use lib.ListN.{length, length-map}
 use borrow.Author.Tests.{not-false}
 use Rattle.ground.specs.Lists.{any, every, gather}
 use Rattle.ground.proofs.Tests.{and-both, or-none-left, or-none-right}
-use Rattle.limits.specs.Limits.{nameBytes, greatestMagnitude}
+use Rattle.limits.specs.Limits.{nameBytes, greatestMagnitude, fieldTerms}
 use Rattle.limits.specs.Verdicts.{ACCEPTED, NUMBER, TERMS, NAMES}
 use Rattle.paper.specs.Statement.{TermOf, WrittenOf, PairOf, StatementOf, Written, Pair, ring, input, goal, lin, del, ext, renamedTerm, renamedField, renamedPair, renamed, newIndex, namedIndices, fields, within, isIndex, isVariable, isTerm, inRange, numbersInRange, tooManyTerms}
 use Rattle.paper.specs.Rules.{first, writtenRules}
+use Rattle.paper.specs.Answer.{indexOf}
 use Rattle.paper.specs.Published.{Name, Named}
 use Rattle.paper.specs.Named.{namesOf, namesIn, badName, namedRules}
 use Rattle.paper.proofs.Pieces.{isZero}
@@ -46,6 +47,38 @@ module _ {A B : Type 0} (f : A → B) where
   line-renamed (del i) = refl
   line-renamed (ext i v p) = ap not (bare-renamed p)
 
+-- ---- nor does the index, or how many terms there are
+abbrev allFactors : List Pair → List Written
+allFactors qs = map (λ q. q .factor) qs
+
+module _ {A : Type 0} (f g : A → ℕ) where
+  pub index-same : (st : StatementOf A) → indexOf (renamed f st) ≡ indexOf (renamed g st)
+  unfolding indexOf renamed
+  index-same (ring r) = refl
+  index-same (input i p) = refl
+  index-same (goal p) = refl
+  index-same (lin i p qs) = refl
+  index-same (del i) = refl
+  index-same (ext i v p) = refl
+
+  many-field : (p : WrittenOf A) → tooManyTerms (renamedField f p) ≡ tooManyTerms (renamedField g p)
+  unfolding tooManyTerms renamedField
+  many-field p = ap (ltb fieldTerms) (length-map p (renamedTerm f) ∙ sym (length-map p (renamedTerm g)))
+
+  many-factors : (qs : List (PairOf A)) → any tooManyTerms (allFactors (map (renamedPair f) qs)) ≡ any tooManyTerms (allFactors (map (renamedPair g) qs))
+  unfolding any renamedPair
+  many-factors [] = refl
+  many-factors (q ∷ qs) = ap₂ _||_ (many-field (q .factor)) (many-factors qs)
+
+  pub many-same : (st : StatementOf A) → any tooManyTerms (fields (renamed f st)) ≡ any tooManyTerms (fields (renamed g st))
+  unfolding any fields renamed
+  many-same (ring r) = refl
+  many-same (input i p) = ap (λ (b : Bool). b || false) (many-field p)
+  many-same (goal p) = ap (λ (b : Bool). b || false) (many-field p)
+  many-same (lin i p qs) = ap₂ _||_ (many-field p) (many-factors qs)
+  many-same (del i) = refl
+  many-same (ext i v p) = ap (λ (b : Bool). b || false) (many-field p)
+
 -- ---- names that are not bad have numbers in range
 any-append : {A : Type 0} (g : A → Bool) (xs ys : List A) → any g (xs ++ ys) ≡ (any g xs || any g ys)
 unfolding any
@@ -69,9 +102,6 @@ zeroed-in-range : (ns : List Name) → every isVariable (map zeroed ns) ≡ true
 unfolding every isVariable
 zeroed-in-range [] = refl
 zeroed-in-range (n ∷ ns) = zeroed-in-range ns
-
-abbrev allFactors : List Pair → List Written
-allFactors qs = map (λ q. q .factor) qs
 
 module _ (f : Name → ℕ) where
   abbrev pub NoneBad : List Name → Type 0
@@ -112,7 +142,7 @@ module _ (f : Name → ℕ) where
   indices-same [] = refl
   indices-same (q ∷ qs) = ap (λ (is : List ℕ). q .index ∷ is) (indices-same qs)
 
-  numbers-same : (st : Named) → NoneBad (namesIn st) → numbersInRange (renamed f st) ≡ numbersInRange (renamed zeroed st)
+  pub numbers-same : (st : Named) → NoneBad (namesIn st) → numbersInRange (renamed f st) ≡ numbersInRange (renamed zeroed st)
   unfolding namesIn numbersInRange renamed newIndex namedIndices fields every isVariable any
   numbers-same (ring r) e = refl
   numbers-same (input i p) e = ap (λ (b : Bool). (isIndex i && true) && (b && true)) (field-range p e)

@@ -1,16 +1,18 @@
--- The verdicts of a text that is read: late ones, neither SHORT nor LONGTEXT, and none above NAMES. Assumes nothing.
+-- The verdicts of texts that are read: late ones, neither SHORT nor LONGTEXT, and none above NAMES. Assumes nothing.
 use mathlib.Core.Path.{_≡_, refl}
 use mathlib.Core.Bool.{Bool, true, _&&_, _||_, not, cond}
 use mathlib.Core.List.{List, [], _∷_, map}
 use Prim.Native.Nat.{ℕ, suc}
 use lib.Dec.{eqb, leb}
-use Rattle.ground.specs.Lists.{every}
+use Rattle.ground.specs.Lists.{every, gather}
 use Rattle.ground.proofs.Tests.{and-left, and-right, by-cond}
 use Rattle.limits.specs.Verdicts.{ACCEPTED, SHORT, LONGTEXT, FORM, NAMES}
 use Rattle.paper.specs.Grammar.{Bytes, Line, lines, Read, got, stuck, statement}
 use Rattle.paper.specs.Statement.{Statement}
 use Rattle.paper.specs.Rules.{first, steps, State, writtenRules, rules}
 use Rattle.paper.specs.Answer.{Answer, Outcome, stands, refused, judge, Item, judgeItem, itemOf, items, report, ending, run}
+use Rattle.paper.specs.Published.{Name, Named, NamedItem}
+use Rattle.paper.specs.Named.{namesIn, readable, numbering, namedRules, numbered, Texts, namedItems, publishedItems}
 
 abbrev pub early : ℕ → Bool
 early v = eqb v SHORT || eqb v LONGTEXT
@@ -42,6 +44,15 @@ line-late l = go (statement l)
 lines-late : (ls : List Line) → LateItems (map itemOf ls)
 lines-late [] = tt
 lines-late (l ∷ ls) = (line-late l, lines-late ls)
+
+numbered-late : (f : Name → ℕ) (is : List NamedItem) → LateItems (map (numbered f) is)
+unfolding numbered namedRules every
+numbered-late f [] = tt
+numbered-late f (i ∷ is) = (go (i .reads), numbered-late f is)
+  where
+    go : (x : Read Named) → late (elim x [ got st r ↦ first (namedRules f st) | stuck r ↦ ACCEPTED ]) ≡ true
+    go (got st r) = first-late (namedRules f st) refl
+    go (stuck r) = refl
 
 -- ---- a run
 module _ (capacity : ℕ) where
@@ -80,3 +91,7 @@ module _ (capacity : ℕ) where
   pub text-late : (s : State) (n : ℕ) (text : Bytes) → late (run capacity s n (items text) .verdict) ≡ true
   unfolding items
   text-late s n text = run-late s n (items text) (lines-late (lines text))
+
+  pub texts-late : (s : State) (n : ℕ) (t : Texts) → late (run capacity s n (publishedItems t) .verdict) ≡ true
+  unfolding publishedItems
+  texts-late s n t = run-late s n (publishedItems t) (numbered-late (numbering (gather namesIn (readable (namedItems t)))) (namedItems t))

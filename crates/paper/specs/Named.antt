@@ -5,10 +5,10 @@ use lib.{Dec.eqb, Dec.ltb, ListN.length}
 use Rattle.limits.specs.Limits.{nameBytes, textBytes, leastPool, leastScratch}
 use Rattle.limits.specs.Verdicts.{ACCEPTED, SHORT, LONGTEXT, NUMBER, TERMS, NAMES}
 use Rattle.ground.specs.Lists.{any, every, gather}
-use Rattle.paper.specs.Statement.{WrittenOf, modulo, ring, input, goal, lin, del, ext, renamed, fields, isRing, isVariable, numbersInRange, tooManyTerms}
+use Rattle.paper.specs.Statement.{WrittenOf, Statement, modulo, ring, input, goal, lin, del, ext, renamed, fields, isRing, isVariable, numbersInRange, tooManyTerms}
 use Rattle.paper.specs.Grammar.{Bytes, bytes, got, stuck, Reader, _>>=_, _>>_, give, literal, end, decimal}
 use Rattle.paper.specs.Rules.{first, start, after}
-use Rattle.paper.specs.Answer.{Answer, Item, run, capacityOf, unread}
+use Rattle.paper.specs.Answer.{Answer, Item, run, capacityOf, unread, statementsOf, acceptedFrom}
 use Rattle.paper.specs.Published.{Name, Named, NamedItem, pieces, readBy, constraint, targetItems, proofStep}
 
 -- ---- the names of a statement, as they follow each other in its bytes
@@ -83,8 +83,12 @@ namedItems t =
     let steps : List NamedItem = map (readBy proofStep) (pieces (t .proof)) in
     map (readBy constraint) (pieces (t .constraints)) ++ (goals ++ cond (eqb (length goals) 0) [] steps)
 
+-- the names that are numbered
+abbrev pub allNames : Texts → List Name
+allNames t = gather namesIn (readable (namedItems t))
+
 unfoldable pub publishedItems : Texts → List Item
-publishedItems t = let is : List NamedItem = namedItems t in map (numbered (numbering (gather namesIn (readable is)))) is
+publishedItems t = map (numbered (numbering (allNames t))) (namedItems t)
 
 -- a line is a statement's place, from 1; k out of range is NUMBER at line 0
 unfoldable pub publishedAnswer : ℕ → Texts → ℕ → ℕ → Answer
@@ -93,3 +97,10 @@ publishedAnswer k t pool scratch =
     cond (ltb pool leastPool || ltb scratch leastScratch) (unread SHORT)
     (cond (ltb textBytes (length (t .constraints) + length (t .target) + length (t .proof))) (unread LONGTEXT)
     (cond (isRing (modulo k)) whole (unread NUMBER)))
+
+-- ---- what the texts say: all their statements, by number; and those that are accepted, the newest first
+unfoldable pub publishedStatements : Texts → List Statement
+publishedStatements t = statementsOf (publishedItems t)
+
+unfoldable pub publishedAccepted : ℕ → Texts → ℕ → List Statement
+publishedAccepted k t pool = acceptedFrom (capacityOf pool) (after start (ring (modulo k))) [] (publishedItems t)
