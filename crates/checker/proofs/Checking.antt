@@ -19,11 +19,11 @@ use Rattle.checker.specs.declared.answer.Answer.{Answer}
 use Rattle.checker.specs.Checked.{answerOf, Ran, Checked}
 
 -- ---- rooms
-room-kept : (v : ℕ) (room : List ℕ) → early v ≡ true → room ≡ roomAfter v room
-unfolding roomAfter
-room-kept v room e = rw e refl
+pub unread-kept : (a : Answer) (v : ℕ) (room : List ℕ) → early v ≡ true → answerOf a ≡ unread v → room ≡ roomAfter (a .verdict) room
+unfolding roomAfter unread
+unread-kept a v room h q = let w : early (a .verdict) ≡ true = ap (λ (x : answers.Answer). early (x .verdict)) q ∙ h in rw w refl
 
-room-zeroed : (v : ℕ) (room : List ℕ) → early v ≡ false → replicate (length room) 0 ≡ roomAfter v room
+pub room-zeroed : (v : ℕ) (room : List ℕ) → early v ≡ false → replicate (length room) 0 ≡ roomAfter v room
 unfolding roomAfter
 room-zeroed v room e = rw e refl
 
@@ -51,24 +51,21 @@ unfolding answer
 whole text pool scratch g h l = rw (le-ltb pool leastPool g, le-ltb scratch leastScratch h, le-ltb textBytes (length text) l) refl
 
 module _ {text : Bytes} {pool scratch : List ℕ} {a : Answer} where
-  unread-kept : (v : ℕ) → early v ≡ true → answer text (length pool) (length scratch) ≡ unread v → answerOf a ≡ unread v → Checked text pool scratch a pool scratch
-  unfolding unread
-  unread-kept v h e q =
-      let w : early (a .verdict) ≡ true = ap (λ (x : answers.Answer). early (x .verdict)) q ∙ h in
-      record { answer = q ∙ sym e; pool-after = room-kept (a .verdict) pool w; scratch-after = room-kept (a .verdict) scratch w }
+  checked-unread : (v : ℕ) → early v ≡ true → answer text (length pool) (length scratch) ≡ unread v → answerOf a ≡ unread v → Checked text pool scratch a pool scratch
+  checked-unread v h e q = record { answer = q ∙ sym e; pool-after = unread-kept a v pool h q; scratch-after = unread-kept a v scratch h q }
 
   pub checked-pool : length pool < leastPool → answerOf a ≡ unread SHORT → Checked text pool scratch a pool scratch
   unfolding answer
-  checked-pool h = unread-kept SHORT refl (rw (lt-ltb (length pool) leastPool h) refl)
+  checked-pool h = checked-unread SHORT refl (rw (lt-ltb (length pool) leastPool h) refl)
 
   pub checked-scratch : leastPool ≤ length pool → length scratch < leastScratch → answerOf a ≡ unread SHORT → Checked text pool scratch a pool scratch
   unfolding answer
-  checked-scratch g h = unread-kept SHORT refl (rw (le-ltb (length pool) leastPool g, lt-ltb (length scratch) leastScratch h) refl)
+  checked-scratch g h = checked-unread SHORT refl (rw (le-ltb (length pool) leastPool g, lt-ltb (length scratch) leastScratch h) refl)
 
   module _ (g : leastPool ≤ length pool) (h : leastScratch ≤ length scratch) where
     pub checked-text : textBytes < length text → answerOf a ≡ unread LONGTEXT → Checked text pool scratch a pool scratch
     unfolding answer
-    checked-text l = unread-kept LONGTEXT refl (rw (le-ltb (length pool) leastPool g, le-ltb (length scratch) leastScratch h, lt-ltb textBytes (length text) l) refl)
+    checked-text l = checked-unread LONGTEXT refl (rw (le-ltb (length pool) leastPool g, le-ltb (length scratch) leastScratch h, lt-ltb textBytes (length text) l) refl)
 
     pub checked-run : length text ≤ textBytes → {capacity : ℕ} {p q p′ q′ : List ℕ} → capacity ≡ capacityOf (length pool) → Ran capacity text pool scratch a p q
         → p′ ≡ replicate (length p) 0 → q′ ≡ replicate (length q) 0 → Checked text pool scratch a p′ q′

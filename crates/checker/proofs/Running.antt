@@ -1,5 +1,5 @@
 -- A text that is run line by line: what holds before each line, and the answer. Assumes nothing.
-use mathlib.Core.Path.{_≡_, refl, sym, ap, ap₂, subst, _∙_}
+use mathlib.Core.Path.{_≡_, sym, ap, ap₂, subst, _∙_}
 use mathlib.Core.Bool.{Bool, true, false, _&&_}
 use mathlib.Core.Logic.{⊎-elim}
 use mathlib.Core.List.{List, _∷_, map}
@@ -11,7 +11,6 @@ use borrow.Author.Tests.{eq-eqb, ne-eqb, eqb-true, eqb-false, ltb-true, ltb-fals
 use Rattle.ground.proofs.Tests.{split, and-left, and-right, cond-yes, cond-no}
 use Rattle.limits.specs.Limits.{textBytes, mostPoolTerms, termWords, leastScratch}
 use Rattle.limits.specs.Verdicts.{ACCEPTED, NOGOAL, NOTREACHED}
-use Rattle.words.specs.Parts.{part}
 use Rattle.paper.specs.Grammar.{Bytes, got, endedBy, lines, statement}
 use Rattle.paper.specs.Statement.{Statement, numbersInRange}
 use Rattle.paper.specs.Rules as paper
@@ -20,6 +19,7 @@ use Rattle.paper.specs.Answer as answers
 use Rattle.paper.specs.Answer.{itemOf, items}
 use Rattle.paper.proofs.Running.{run-stands, run-refused}
 use Rattle.reader.specs.Search.{LineEnd}
+use Rattle.reader.proofs.Search.{next-ended}
 use Rattle.table.specs.Table.{Packed}
 use Rattle.table.proofs.Laws.{store-length, store-terms}
 use Rattle.steps.specs.declared.state.State.{State}
@@ -54,15 +54,8 @@ module _ {a : answers.Answer} (s : paper.State) (n : ℕ) where
 
 -- ---- the next line
 next-line : {text : Bytes} {at e : ℕ} → LineEnd text at e → at < length text → lines (drop at text) ≡ lineAt text at e ∷ lines (drop (e + 1) text)
-unfolding lines endedBy
-next-line {text} {at} {e} h l = go (ltb e (length text)) refl
-  where
-    go : (b : Bool) → ltb e (length text) ≡ b → lines (drop at text) ≡ record { content = part at (e - at) text; ended = b } ∷ lines (drop (e + 1) text)
-    go true q = h .ended (ltb-true e (length text) q)
-    go false q =
-        let m : length text ≤ e = ltb-false e (length text) q in
-        let d : length text ≤ e + 1 = omega arith in
-        rw (drop-of-length-le text d) (h .last l m)
+unfolding lines
+next-line {text} {at} {e} h l = next-ended 10 text at e (h .ended) (h .last l)
 
 next-item : {text : Bytes} {at e : ℕ} → LineEnd text at e → at < length text → items (drop at text) ≡ itemOf (lineAt text at e) ∷ items (drop (e + 1) text)
 unfolding items

@@ -33,7 +33,7 @@ pub fn unread(why: u64) -> Answer
 }
 
 // The answer with the counts of this state.
-pub(crate) fn report(state: State, verdict: u64, line: u64, index: u64) -> Answer
+pub fn report(state: State, verdict: u64, line: u64, index: u64) -> Answer
     requires { ⌜ Packed (state .table) ⌝ }
     ensures { λ r. ⌜ ((pool scratch : List ℕ) → answerOf r ≡ paper.report (stateOf state pool scratch) verdict line index) ⌝ }
 {
@@ -48,7 +48,7 @@ pub(crate) fn report(state: State, verdict: u64, line: u64, index: u64) -> Answe
 }
 
 // The answer behind the last line.
-pub(crate) fn ending(state: State) -> Answer
+pub fn ending(state: State) -> Answer
     requires { ⌜ Packed (state .table) ⌝ }
     ensures { λ r. ⌜ ((pool scratch : List ℕ) → answerOf r ≡ paper.ending (stateOf state pool scratch) (state .lines)) ⌝ }
 {

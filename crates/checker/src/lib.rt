@@ -11,7 +11,7 @@ use answer::unread;
 use run::run;
 
 // The terms that a pool of so many words holds.
-fn capacity(words: usize) -> usize
+pub fn capacity(words: usize) -> usize
     ensures { λ r. ⌜ r ≡ paper.capacityOf words ⌝ }
 {
     let terms = words / limits::TERM_WORDS;

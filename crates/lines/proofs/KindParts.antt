@@ -3,13 +3,12 @@ use mathlib.Core.Path.{_≡_, refl, sym, ap, ap₂, _∙_}
 use mathlib.Core.Bool.{Bool, true, _&&_}
 use mathlib.Core.List.{List}
 use Prim.Native.Nat.{ℕ, _+_, _-_, _*_}
-use native.Mathlib.Omega.{arith}
 use lib.ListN.{length}
 use Rattle.ground.specs.Lists.{every, any}
 use Rattle.limits.specs.Limits.{variables, greatestRing, greatestIndex, fieldTerms, termWords}
 use Rattle.limits.specs.Verdicts.{FORM}
 use Rattle.words.specs.Parts.{Within}
-use Rattle.words.proofs.Parts.{within-refl, within-trans, within-wider}
+use Rattle.words.proofs.Parts.{within-refl, within-trans}
 use Rattle.paper.specs.Grammar.{Bytes, bytes, Reader, next, literal, number, field, pairs, ringLine, inputLine, goalLine, linLine, delLine, extLine}
 use Rattle.paper.specs.Statement.{modulo, Statement, ring, input, goal, lin, del, ext, fields, within, isIndex, isVariable, inRange}
 use Rattle.paper.specs.Rules.{Store}
@@ -20,9 +19,9 @@ use Rattle.reader.specs.declared.field.FieldRead.{FieldRead}
 use Rattle.reader.specs.Verdicts.{verdictOf, lesserOf}
 use Rattle.reader.proofs.Following.{got-then, fails-then, fails-first, got-give}
 use Rattle.reader.proofs.Fields.{variable-range}
-use Rattle.reader.proofs.Verdicts.{verdict-both, lesser-accepted}
+use Rattle.reader.proofs.Verdicts.{verdict-two, lesser-accepted}
 use Rattle.scratch.specs.Scratch.{statedAt, goalAt, Kept}
-use Rattle.scratch.proofs.Keeping.{holds-kept}
+use Rattle.scratch.proofs.Keeping.{stated-kept, holds-kept}
 use Rattle.sums.specs.declared.Sum.{Sum}
 use Rattle.sums.specs.Sums.{Summed}
 use Rattle.steps.specs.declared.said.Said.{Said}
@@ -51,14 +50,7 @@ module _ (w : Bytes) {A : Type 0} (read : Reader A) (G : A → Reader Statement)
         → KindIs k store (w, λ r. next (read r) G) s words words′ sum (Refused why)
     later-stops t h f = kind-stops (w, λ r. next (read r) G) kept f (fails-as (in-row s) (fails-then (keyed w read) G (t .taken) h))
 
--- ---- verdicts
-two : {why v w : ℕ} (a b x y : Bool) → why ≡ lesserOf v w → v ≡ verdictOf a x → w ≡ verdictOf b y → why ≡ verdictOf (a && b) (x && y)
-two a b x y e f g = e ∙ ap₂ lesserOf f g ∙ sym (verdict-both a b x y)
-
 -- ---- words
-pub stated-kept : {s r : List ℕ} → Within statedAt (statedAt + fieldTerms * termWords) s r → Within 0 goalAt s r
-stated-kept {s} {r} w = within-wider 0 statedAt (statedAt + fieldTerms * termWords) goalAt s r (omega arith) (omega arith) w
-
 pub both-kept : {s x r : List ℕ} → Within statedAt (statedAt + fieldTerms * termWords) s x → Kept x r → Within 0 goalAt s r
 both-kept w k = within-trans (stated-kept w) (record { before = refl; after = k .goal; same = k .same })
 
@@ -115,7 +107,7 @@ module _ {k : ℕ} {store : Store} {sum : Sum} {s : Bytes} {words : List ℕ} {r
         (record {
           value = input (h .value) (f .value);
           taken = behind-got (bytes "in") number _ (h .taken) (got-then field _ (f .taken) (got-give (input (h .value) (f .value)) (f .taken .inside)));
-          verdict = two (isIndex (h .value)) (inRange (f .value)) true (fewTerms (f .value)) l (h .verdict) (f .verdict)
+          verdict = verdict-two (isIndex (h .value)) (inRange (f .value)) true (fewTerms (f .value)) l (h .verdict) (f .verdict)
               ∙ ap₂ verdictOf (ranged-input (h .value) (f .value)) (few-one (f .value));
           holds = λ a.
               let b = lesser-accepted (i .why) (p .why) (sym l ∙ a) in
@@ -134,8 +126,8 @@ module _ {k : ℕ} {store : Store} {sum : Sum} {s : Bytes} {words : List ℕ} {r
         (record {
           value = st;
           taken = behind-got (bytes "ext") number _ (h .taken) (got-then number _ (g .taken) (got-then field _ (f .taken) (got-give st (f .taken .inside))));
-          verdict = two (isIndex (h .value) && isVariable (g .value)) (inRange (f .value)) true (fewTerms (f .value)) m
-              (two (isIndex (h .value)) (isVariable (g .value)) true true l (h .verdict) ranged) (f .verdict)
+          verdict = verdict-two (isIndex (h .value) && isVariable (g .value)) (inRange (f .value)) true (fewTerms (f .value)) m
+              (verdict-two (isIndex (h .value)) (isVariable (g .value)) true true l (h .verdict) ranged) (f .verdict)
               ∙ ap₂ verdictOf (ranged-ext (h .value) (g .value) (f .value)) (few-one (f .value));
           holds = λ a.
               let b = lesser-accepted numbers (p .why) (sym m ∙ a) in
@@ -155,8 +147,8 @@ lin-line i p qs {stated} h f kept g w l m q =
     (record {
       value = st;
       taken = behind-got (bytes "lin") number _ (h .taken) (got-then field _ (f .taken) (got-then pairs _ (g .taken) (got-give st (g .taken .inside))));
-      verdict = two (isIndex (h .value) && inRange (f .value)) (every pairRanged (g .value)) (fewTerms (f .value)) (every pairFew (g .value)) m
-          (two (isIndex (h .value)) (inRange (f .value)) true (fewTerms (f .value)) l (h .verdict) (f .verdict)) (g .verdict)
+      verdict = verdict-two (isIndex (h .value) && inRange (f .value)) (every pairRanged (g .value)) (fewTerms (f .value)) (every pairFew (g .value)) m
+          (verdict-two (isIndex (h .value)) (inRange (f .value)) true (fewTerms (f .value)) l (h .verdict) (f .verdict)) (g .verdict)
           ∙ ap₂ verdictOf (ranged-lin (h .value) (f .value) (g .value)) (few-lin (h .value) (f .value) (g .value));
       holds = λ a.
           let b = lesser-accepted stated (qs .why) (sym m ∙ a) in

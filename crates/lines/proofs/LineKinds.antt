@@ -5,7 +5,7 @@ use mathlib.Core.List.{List, [], _∷_}
 use Prim.Native.Nat.{ℕ, suc, _≤_, _<_}
 use native.Mathlib.Omega.{arith}
 use lib.Dec.{eqb, ltb}
-use lib.ListN.{length, drop, getD, drop-of-length-le}
+use lib.ListN.{length, drop, getD}
 use lib.Seq.{drop-cons}
 use borrow.Author.Tests.{ltb-true, ltb-false, lt-ltb, le-ltb, eqb-true, eqb-false, eq-eqb, ne-eqb}
 use Rattle.ground.proofs.Tests.{by-cond}
@@ -22,7 +22,7 @@ use Rattle.reader.specs.Places.{Got, Fails}
 use Rattle.reader.specs.Keywords.{WordIs}
 use Rattle.reader.specs.declared.keyword.Word.{Word}
 use Rattle.reader.specs.declared.keyword.Word.the-variants.{Read as Known, Refused as Unknown}
-use Rattle.reader.proofs.Following.{got-then, fails-then, fails-first, got-give}
+use Rattle.reader.proofs.Following.{got-then, fails-then, fails-first, got-give, end-not, end-here}
 use Rattle.reader.proofs.Verdicts.{verdict-accepted}
 use Rattle.scratch.specs.Scratch.{goalAt}
 use Rattle.sums.specs.declared.Sum.{Sum}
@@ -41,16 +41,6 @@ module _ {read : Reader (Unit {0})} {s : Bytes} {at : ℕ} {k : Word} (w : WordI
 
   pub word-refused : {why p : ℕ} → k ≡ Unknown why p → (why ≡ FORM) × Fails read s at p
   word-refused q = subst (WordIs read s at) q w
-
--- ---- the end of a line
-module _ (s : Bytes) (e : ℕ) where
-  end-not : e < length s → Fails end s e e
-  unfolding end
-  end-not h = record { reads = rw (drop-cons s e 0 h); onward = omega arith; inside = omega arith }
-
-  end-here : length s ≤ e → e ≤ length s → Got end s e tt e
-  unfolding end
-  end-here h l = record { reads = rw (drop-of-length-le s h); onward = omega arith; inside = l }
 
 -- ---- what was read, closed
 module _ (n e why : ℕ) (r : Said) where

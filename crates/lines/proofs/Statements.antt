@@ -10,17 +10,11 @@ use Rattle.paper.specs.Statement.{Written, Pair, modulo, Statement, ring, input
 use Rattle.paper.specs.Rules.{first, writtenRules}
 use Rattle.reader.specs.Verdicts.{verdictOf}
 use Rattle.lines.specs.Parts.{fewTerms, pairRanged, pairFew}
-use Rattle.reader.proofs.Verdicts.{not-not}
+use Rattle.reader.proofs.Verdicts.{not-not, crossed}
 
 not-or : (a b : Bool) → (not a && not b) ≡ not (a || b)
 not-or true b = refl
 not-or false b = refl
-
-crossed : (a b x y : Bool) → ((a && b) && (x && y)) ≡ ((a && x) && (b && y))
-crossed true true x y = refl
-crossed true false true y = refl
-crossed true false false y = refl
-crossed false b x y = refl
 
 -- ---- numbers
 pub ranged-ring : (k : ℕ) → within 1 greatestRing k ≡ numbersInRange (ring (modulo k))

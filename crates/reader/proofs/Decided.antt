@@ -8,6 +8,7 @@ use native.Mathlib.Omega.{arith}
 use lib.Dec.{ltb}
 use lib.ListN.{length, drop, length-drop}
 use borrow.Author.Tests.{ltb-true, ltb-false}
+use Rattle.ground.proofs.Tests.{split}
 use Rattle.limits.specs.Limits.{fieldTerms, termWords}
 use Rattle.limits.specs.Verdicts.{ACCEPTED, FORM, NUMBER, TERMS}
 use Rattle.words.specs.Parts.{part, Within}
@@ -21,7 +22,7 @@ use Rattle.paper.specs.Statement.{Written, within, tooManyTerms}
 use Rattle.paper.specs.Rules.{first}
 use Rattle.paper.proofs.Reading.{clash}
 use Rattle.reader.specs.Places.{Got, Fails}
-use Rattle.reader.specs.Search.{LineEnd}
+use Rattle.reader.specs.Search.{FirstOrEnd, LineEnd}
 use Rattle.reader.specs.Numbers.{TooLarge, DecimalIs, InRange, OutOfRange, NumberIs}
 use Rattle.reader.specs.Keywords.{WordIs}
 use Rattle.reader.specs.Marks.{allFine, firstOutside, fieldMarks, firstTooMany}
@@ -170,3 +171,12 @@ module _ (text : Bytes) (at : ℕ) where
       go true false h k = absurd (unlike a b (ltb-true r (length text) h) (ltb-false q (length text) k))
       go false true h k = absurd (unlike b a (ltb-true q (length text) k) (ltb-false r (length text) h))
       go false false h k = omega (arith, ltb-false r (length text) h, ltb-false q (length text) k, a .inside, b .inside)
+
+-- ---- `find_byte`
+module _ (b : ℕ) (s : Bytes) (at : ℕ) where
+  no-earlier : {r q : ℕ} → FirstOrEnd b s at r → FirstOrEnd b s at q → r < q → ⊥
+  no-earlier {r} x y l = y .without .none r l (x .without .onward) (x .found (omega (arith, y .without .inside)))
+
+  pub one-first-byte : (r q : ℕ) → FirstOrEnd b s at r → FirstOrEnd b s at q → r ≡ q
+  one-first-byte r q x y =
+      ⊎-elim (λ l. absurd (no-earlier x y (ltb-true r q l))) (λ l. ⊎-elim (λ m. absurd (no-earlier y x (ltb-true q r m))) (λ m. omega (arith, ltb-false r q l, ltb-false q r m)) (split (ltb q r))) (split (ltb r q))

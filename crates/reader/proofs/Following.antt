@@ -4,8 +4,9 @@ use mathlib.Core.Bool.{Bool}
 use mathlib.Core.List.{List, [], _∷_, _++_, append-assoc, append-nil}
 use Prim.Native.Nat.{ℕ, _+_, _≤_, _<_}
 use native.Mathlib.Omega.{arith}
-use lib.ListN.{length, drop, getD, length-drop}
-use Rattle.paper.specs.Grammar.{Bytes, Read, got, stuck, Reader, next, give, each}
+use lib.ListN.{length, drop, getD, length-drop, drop-of-length-le}
+use lib.Seq.{drop-cons}
+use Rattle.paper.specs.Grammar.{Bytes, Read, got, stuck, Reader, next, give, end, each}
 use Rattle.paper.proofs.Reading.{next-assoc, Takes, after-length, each-more, each-stuck}
 use Rattle.reader.specs.Places.{Got, Fails}
 use Rattle.reader.specs.Marks.{Mark}
@@ -30,6 +31,16 @@ module _ {A B : Type 0} (read : Reader A) (f : A → Reader B) {s : Bytes} {at :
 
 pub got-give : {A : Type 0} (x : A) {s : Bytes} {at : ℕ} → at ≤ length s → Got (give x) s at x at
 got-give x {s} {at} h = record { reads = refl; onward = omega arith; inside = h }
+
+-- the end of a line
+module _ (s : Bytes) (e : ℕ) where
+  pub end-not : e < length s → Fails end s e e
+  unfolding end
+  end-not h = record { reads = rw (drop-cons s e 0 h); onward = omega arith; inside = omega arith }
+
+  pub end-here : length s ≤ e → e ≤ length s → Got end s e tt e
+  unfolding end
+  end-here h l = record { reads = rw (drop-of-length-le s h); onward = omega arith; inside = l }
 
 -- a reader that takes n bytes or more
 pub got-onward : {A : Type 0} {allowed : ℕ → Bool} {n : ℕ} (read : Reader A) → Takes allowed n read → {s : Bytes} {at : ℕ} {x : A} {e : ℕ} → Got read s at x e → at + n ≤ e

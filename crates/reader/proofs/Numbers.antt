@@ -8,9 +8,10 @@ use lib.Dec.{leb, ltb}
 use lib.ListN.{length, drop, getD}
 use borrow.Author.Tests.{leb-true, ltb-true, lt-ltb, le-leb, lt-leb}
 use Rattle.ground.proofs.Tests.{bool-ext}
+use Rattle.limits.specs.Limits.{greatestRing}
 use Rattle.limits.specs.Verdicts.{FORM, NUMBER}
 use Rattle.paper.specs.Grammar.{Bytes, Reader, got, digits}
-use Rattle.paper.specs.Statement.{within}
+use Rattle.paper.specs.Statement.{modulo, within, isRing}
 use Rattle.paper.proofs.Pieces.{digits-more, digits-least}
 use Rattle.reader.specs.Places.{Got, Fails}
 use Rattle.reader.specs.Numbers.{TooLarge, DecimalIs, DigitsEnd, outsideOf, InRange, OutOfRange, NumberIs, refusedOf}
@@ -83,6 +84,20 @@ module _ (low high v : ℕ) where
       go : (b : Bool) → (b && leb v high) ≡ false
       go true = lt-leb v high h
       go false = refl
+
+-- k of a ring
+module _ (k : ℕ) where
+  pub ring-low : k < 1 → isRing (modulo k) ≡ false
+  unfolding isRing
+  ring-low h = within-below 1 greatestRing k h
+
+  pub ring-high : greatestRing < k → isRing (modulo k) ≡ false
+  unfolding isRing
+  ring-high h = within-above 1 greatestRing k h
+
+  pub ring-inside : 1 ≤ k → k ≤ greatestRing → isRing (modulo k) ≡ true
+  unfolding isRing
+  ring-inside h l = within-yes 1 greatestRing k h l
 
 pub number-refused : (f : Reader ℕ) (low high : ℕ) (s : Bytes) (at : ℕ) → high < 2 ^ 64 → (d : Decimal) → DecimalIs f s at d
     → ((v e : ℕ) → d ≡ Value v e → within low high v ≡ false) → NumberIs f low high s at (outsideOf d)

@@ -1,15 +1,16 @@
--- Bytes passed over in search of another, and the lines of a text whose first byte 10 is known. Assumes nothing.
+-- Bytes passed over in search of another, and what a byte ends in a text where its first place is known. Assumes nothing.
 use mathlib.Core.Path.{_≡_, refl, sym, ap, ap₂, _∙_}
-use mathlib.Core.Bool.{true, false}
+use mathlib.Core.Bool.{Bool, true, false}
 use mathlib.Core.List.{[], _∷_, _++_}
 use Prim.Native.Nat.{ℕ, suc, _+_, _-_, _≤_, _<_}
 use native.Mathlib.Nat.{not-suc-le-zero}
 use native.Mathlib.Numerals.{add-one}
 use native.Mathlib.Omega.{arith}
-use lib.ListN.{length, drop, getD, length-drop, take-append-drop}
+use lib.Dec.{ltb}
+use lib.ListN.{length, drop, getD, length-drop, take-append-drop, drop-of-length-le}
 use lib.Seq.{drop-cons, drop-drop, take-all, getD-take, getD-drop}
 use borrow.Author.Count.{below-more}
-use borrow.Author.Tests.{eq-eqb, ne-eqb}
+use borrow.Author.Tests.{eq-eqb, ne-eqb, ltb-true, ltb-false}
 use Rattle.words.specs.Parts.{part, amongEight}
 use Rattle.words.proofs.Parts.{length-part}
 use Rattle.words.proofs.Eight.{below-eight}
@@ -55,17 +56,35 @@ module _ (c : ℕ) where
   unended (b ∷ []) h n = rw (ne-eqb b c (n 0 (omega arith)))
   unended (b ∷ d ∷ w) h n = rw (ne-eqb b c (n 0 (omega arith)), unended (d ∷ w) (omega arith) (λ k l. n (suc k) (omega arith)))
 
+-- ---- the same by places, where its first place from at on is known
+module _ (c : ℕ) (text : Bytes) (at r : ℕ) where
+  module _ (f : FirstOrEnd c text at r) where
+    pub ended-at : r < length text → endedBy c (drop at text) ≡ record { content = part at (r - at) text; ended = true } ∷ endedBy c (drop (r + 1) text)
+    ended-at h =
+        let d : drop r text ≡ c ∷ drop (r + 1) text = drop-cons text r 0 h ∙ ap₂ _∷_ (f .found h) (ap (λ (n : ℕ). drop n text) (sym (add-one r))) in
+        ap (endedBy c) (sym (part-then text at r (f .without .onward)) ∙ ap (λ (l : Bytes). part at (r - at) text ++ l) d)
+        ∙ ended-first c (part at (r - at) text) (drop (r + 1) text) (part-without text at c r (f .without))
+
+    pub unended-at : at < length text → length text ≤ r → endedBy c (drop at text) ≡ record { content = part at (r - at) text; ended = false } ∷ []
+    unended-at h l =
+        let p : part at (r - at) text ≡ drop at text = take-all (r - at) (drop at text) (omega (arith, length-drop at text)) in
+        ap (endedBy c) (sym p) ∙ unended c (part at (r - at) text) (omega (arith, ap length p, length-drop at text)) (part-without text at c r (f .without))
+
+  -- ended or not, it is the first
+  pub next-ended : (r < length text → endedBy c (drop at text) ≡ record { content = part at (r - at) text; ended = true } ∷ endedBy c (drop (r + 1) text))
+      → (length text ≤ r → endedBy c (drop at text) ≡ record { content = part at (r - at) text; ended = false } ∷ [])
+      → endedBy c (drop at text) ≡ record { content = part at (r - at) text; ended = ltb r (length text) } ∷ endedBy c (drop (r + 1) text)
+  unfolding endedBy
+  next-ended first last = go (ltb r (length text)) refl
+    where
+      go : (b : Bool) → ltb r (length text) ≡ b → endedBy c (drop at text) ≡ record { content = part at (r - at) text; ended = b } ∷ endedBy c (drop (r + 1) text)
+      go true q = first (ltb-true r (length text) q)
+      go false q =
+          let m : length text ≤ r = ltb-false r (length text) q in
+          let d : length text ≤ r + 1 = omega arith in
+          rw (drop-of-length-le text d) (last m)
+
 pub line-end : (text : Bytes) (at r : ℕ) → FirstOrEnd 10 text at r → LineEnd text at r
 unfolding lines
 line-end text at r f =
-    record {
-      onward = f .without .onward;
-      inside = f .without .inside;
-      ended = λ h.
-          let d : drop r text ≡ 10 ∷ drop (r + 1) text = drop-cons text r 0 h ∙ ap₂ _∷_ (f .found h) (ap (λ (n : ℕ). drop n text) (sym (add-one r))) in
-          ap lines (sym (part-then text at r (f .without .onward)) ∙ ap (λ (l : Bytes). part at (r - at) text ++ l) d)
-          ∙ ended-first 10 (part at (r - at) text) (drop (r + 1) text) (part-without text at 10 r (f .without));
-      last = λ h l.
-          let p : part at (r - at) text ≡ drop at text = take-all (r - at) (drop at text) (omega (arith, length-drop at text)) in
-          ap lines (sym p) ∙ unended 10 (part at (r - at) text) (omega (arith, ap length p, length-drop at text)) (part-without text at 10 r (f .without));
-    }
+    record { onward = f .without .onward; inside = f .without .inside; ended = ended-at 10 text at r f; last = unended-at 10 text at r f }

@@ -1,5 +1,5 @@
 -- Verdicts on two parts by those on each. Assumes nothing.
-use mathlib.Core.Path.{_≡_, refl, sym, _∙_}
+use mathlib.Core.Path.{_≡_, refl, sym, ap₂, _∙_}
 use mathlib.Core.Bool.{Bool, true, false, _&&_, not, cond}
 use Prim.Native.Nat.{ℕ}
 use native.Mathlib.Omega.{arith}
@@ -14,6 +14,12 @@ pub not-not : (b : Bool) → b ≡ not (not b)
 not-not true = refl
 not-not false = refl
 
+pub crossed : (a b x y : Bool) → ((a && b) && (x && y)) ≡ ((a && x) && (b && y))
+crossed true true x y = refl
+crossed true false true y = refl
+crossed true false false y = refl
+crossed false b x y = refl
+
 -- of two parts
 pub verdict-both : (a b x y : Bool) → verdictOf (a && b) (x && y) ≡ lesserOf (verdictOf a x) (verdictOf b y)
 unfolding first lesserOf
@@ -24,6 +30,9 @@ verdict-both true false false y = refl
 verdict-both false true x true = refl
 verdict-both false true x false = refl
 verdict-both false false x y = refl
+
+pub verdict-two : {why v w : ℕ} (a b x y : Bool) → why ≡ lesserOf v w → v ≡ verdictOf a x → w ≡ verdictOf b y → why ≡ verdictOf (a && b) (x && y)
+verdict-two a b x y e f g = e ∙ ap₂ lesserOf f g ∙ sym (verdict-both a b x y)
 
 pub verdict-form : (a b : Bool) → verdictOf a b ≡ FORM → ⊥
 unfolding first

@@ -1,4 +1,4 @@
-// Searches for one byte: where a line ends in a text.
+// Searches for one byte: where a line or a statement ends in a text.
 ghost use mathlib.Core.Path.{_≡_};
 ghost use Prim.Native.Nat.{_+_, _≤_};
 ghost use lib.ListN.{length};
@@ -39,7 +39,7 @@ fn skip(s: &[u8], at: usize, b: u8) -> usize
 }
 
 // The place of the first byte b from at on, or the length.
-fn find_byte(s: &[u8], at: usize, b: u8) -> usize
+pub fn find_byte(s: &[u8], at: usize, b: u8) -> usize
     requires { ⌜ at ≤ length (now s) ⌝ }
     ensures { λ r. ⌜ FirstOrEnd b (now (s .entry)) at r ⌝ }
 {

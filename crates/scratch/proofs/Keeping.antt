@@ -1,13 +1,13 @@
 -- What a change in one region leaves of the others. Assumes nothing.
 use mathlib.Core.Path.{_≡_, refl, _∙_}
 use mathlib.Core.List.{List}
-use Prim.Native.Nat.{ℕ, _-_, _*_, _≤_}
+use Prim.Native.Nat.{ℕ, _+_, _-_, _*_, _≤_}
 use native.Mathlib.Omega.{arith}
 use lib.ListN.{drop}
 use Rattle.ground.proofs.Lists.{take-fewer, drop-more}
-use Rattle.limits.specs.Limits.{termWords}
+use Rattle.limits.specs.Limits.{fieldTerms, termWords}
 use Rattle.words.specs.Parts.{Within}
-use Rattle.words.proofs.Parts.{above-kept, below-kept}
+use Rattle.words.proofs.Parts.{within-wider, above-kept, below-kept}
 use Rattle.terms.specs.Terms.{decode}
 use Rattle.terms.proofs.Decode.{decode-same}
 use Rattle.paper.specs.Statement.{Written}
@@ -31,6 +31,10 @@ kept-front a e s r w h =
 
 pub kept-factor : (s r : List ℕ) → Within factorAt goalAt s r → Kept s r
 kept-factor s r w = record { stated = below-kept factorAt goalAt s r w statedAt (factorAt - statedAt) (omega arith); goal = w .after; same = w .same }
+
+-- a change of the stated region is one before the goal's
+pub stated-kept : {s r : List ℕ} → Within statedAt (statedAt + fieldTerms * termWords) s r → Within 0 goalAt s r
+stated-kept {s} {r} w = within-wider 0 statedAt (statedAt + fieldTerms * termWords) goalAt s r (omega arith) (omega arith) w
 
 -- a field in the stated region stays there
 pub holds-kept : {p : Written} {n : ℕ} {s r : List ℕ} → Kept s r → Holds p n statedAt s → Holds p n statedAt r

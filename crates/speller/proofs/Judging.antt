@@ -3,12 +3,12 @@ use mathlib.Core.Path.{_≡_, refl, sym, ap, _∙_}
 use mathlib.Core.Bool.{Bool, true, false, _&&_, not, cond, and-false}
 use mathlib.Core.Logic.{⊎-elim}
 use mathlib.Core.List.{List, [], _∷_}
-use Prim.Native.Nat.{ℕ, _≤_, _<_}
+use Prim.Native.Nat.{ℕ, _<_}
 use native.Mathlib.Omega.{arith}
 use lib.Dec.{eqb, ltb}
 use lib.ListN.{length, drop, length-drop, drop-of-length-le}
 use Rattle.ground.proofs.Tests.{by-cond, and-both}
-use Rattle.limits.specs.Limits.{greatestRing, greatestMagnitude}
+use Rattle.limits.specs.Limits.{greatestMagnitude}
 use Rattle.limits.specs.Verdicts.{ACCEPTED, SHORT, FORM, NUMBER, TERMS, FULL}
 use Rattle.paper.specs.Grammar.{Bytes, Read, got, stuck, next, end, polynomial}
 use Rattle.paper.specs.Statement.{Written, modulo, isRing, inRange, tooManyTerms, reduced}
@@ -17,23 +17,8 @@ use Rattle.paper.specs.Spelling.{Spelled, refuse, spell, spellingRules, spellRe
 use Rattle.paper.proofs.ReadBack.{whole-end}
 use Rattle.reader.specs.Fields.{FieldAt, FieldIs}
 use Rattle.reader.specs.declared.field.FieldRead.{FieldRead}
-use Rattle.reader.proofs.Numbers.{within-yes, within-below, within-above}
 use Rattle.reader.proofs.Ranges.{field-fine, field-holds}
 use Rattle.speller.specs.Spells.{fitted, Accepts, FieldJudged}
-
--- ---- k
-module _ (k : ℕ) where
-  pub ring-low : k ≡ 0 → isRing (modulo k) ≡ false
-  unfolding isRing
-  ring-low h = within-below 1 greatestRing k (omega arith)
-
-  pub ring-high : greatestRing < k → isRing (modulo k) ≡ false
-  unfolding isRing
-  ring-high h = within-above 1 greatestRing k h
-
-  pub ring-inside : 1 ≤ k → k ≤ greatestRing → isRing (modulo k) ≡ true
-  unfolding isRing
-  ring-inside h l = within-yes 1 greatestRing k h l
 
 -- ---- the whole field
 whole-stuck : (s t : Bytes) → polynomial s ≡ stuck t → wholeField s ≡ stuck t

@@ -4,8 +4,9 @@ use borrow.Author.Needs.{needs}
 use Rattle.words.proofs.Parts.{within-refl}
 use Rattle.paper.specs.Grammar.{bytes, number, field}
 use Rattle.reader.proofs.Following.{fails-first, fails-then}
+use Rattle.scratch.proofs.Keeping.{stated-kept}
 use Rattle.lines.proofs.Parts.{part-stuck, part-took}
-use Rattle.lines.proofs.KindParts.{stated-kept, first-stops, later-stops, ext-line}
+use Rattle.lines.proofs.KindParts.{first-stops, later-stops, ext-line}
 use Rattle.lines.proofs.read.read_ext.Statement.{statement}
 use Rattle.lines.proofs.read.read_ext.Tie as tie
 

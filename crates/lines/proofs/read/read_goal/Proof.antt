@@ -5,9 +5,10 @@ use borrow.Author.Needs.{needs}
 use Rattle.words.proofs.Parts.{within-refl}
 use Rattle.paper.specs.Grammar.{bytes, literal, field, goalLine}
 use Rattle.reader.proofs.Following.{fails-first, fails-then}
+use Rattle.scratch.proofs.Keeping.{stated-kept}
 use Rattle.lines.proofs.Parts.{part-stuck, part-took}
 use Rattle.lines.proofs.LineKinds.{word-read, word-refused, kind-stops}
-use Rattle.lines.proofs.KindParts.{stated-kept, goal-line}
+use Rattle.lines.proofs.KindParts.{goal-line}
 use Rattle.lines.proofs.read.read_goal.Statement.{statement}
 use Rattle.lines.proofs.read.read_goal.Tie as tie
 

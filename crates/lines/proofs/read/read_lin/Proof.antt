@@ -4,9 +4,10 @@ use borrow.Author.Needs.{needs}
 use Rattle.words.proofs.Parts.{within-refl}
 use Rattle.paper.specs.Grammar.{bytes, number, field, pairs}
 use Rattle.reader.proofs.Following.{fails-first, fails-then}
+use Rattle.scratch.proofs.Keeping.{stated-kept}
 use Rattle.lines.proofs.Parts.{part-stuck, part-took}
 use Rattle.lines.proofs.LineKinds.{said-so}
-use Rattle.lines.proofs.KindParts.{stated-kept, both-kept, first-stops, later-stops, lin-line}
+use Rattle.lines.proofs.KindParts.{both-kept, first-stops, later-stops, lin-line}
 use Rattle.lines.proofs.read.read_lin.Statement.{statement}
 use Rattle.lines.proofs.read.read_lin.Tie as tie
 
