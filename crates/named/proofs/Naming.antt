@@ -11,11 +11,12 @@ use borrow.Author.Tests.{ltb-true, not-false}
 use Rattle.ground.specs.Lists.{any, gather}
 use Rattle.ground.proofs.Tests.{split, cond-yes, cond-no, or-none-left, or-none-right}
 use Rattle.limits.specs.Limits.{nameBytes, variables}
-use Rattle.paper.specs.Grammar.{Bytes, Read, got, stuck}
-use Rattle.paper.specs.Statement.{TermOf, WrittenOf, isVariable, renamedTerm, renamedField}
-use Rattle.paper.specs.Published.{Name}
-use Rattle.paper.specs.Named.{namesOf, afterX, plainNumber, isPlain, sameName, placeIn, withNames}
-use Rattle.paper.proofs.Names.{never, name-same, isIn, in-append, place-out, place-append, with-old, with-new, with-append, place-kept, name-comes}
+use Rattle.paper.specs.Grammar.{Bytes}
+use Rattle.paper.specs.Statement.{TermOf, WrittenOf, PairOf, Written, ring, input, goal, lin, del, ext, isVariable, renamedTerm, renamedField, renamedPair, renamed}
+use Rattle.paper.specs.Published.{Name, Named}
+use Rattle.paper.specs.Named.{namesOf, namesIn, isPlain, sameName, placeIn, withNames}
+use Rattle.paper.proofs.Names.{name-same, isIn, in-append, place-out, place-append, with-old, with-new, with-append, place-kept, name-comes}
+use Rattle.paper.proofs.PlainSpelled.{plain-variable}
 use Rattle.names.specs.Names.{held, Holding, numberBy, badBy, namesWith, NumberedIs}
 use Rattle.names.specs.declared.Numbered.{Numbered}
 use Rattle.named.specs.Reads.{NamesAre, numberIn}
@@ -33,7 +34,7 @@ in-more : (m : Name) (ns : List Name) (n : Name) → isIn ns n ≡ true → isIn
 unfolding any
 in-more m ns n e = or-right (sameName m n) (isIn ns n) e
 
-abbrev Alike : {B : Type 0} → (Name → B) → (Name → B) → List Name → Type 0
+abbrev pub Alike : {B : Type 0} → (Name → B) → (Name → B) → List Name → Type 0
 Alike f g ns = (n : Name) → isIn ns n ≡ true → f n ≡ g n
 
 map-alike : {B : Type 0} (f g : Name → B) (ns : List Name) → Alike f g ns → map f ns ≡ map g ns
@@ -45,7 +46,7 @@ unfolding any
 any-map f [] = refl
 any-map f (n ∷ ns) = ap (λ (b : Bool). f n || b) (any-map f ns)
 
-any-alike : (f g : Name → Bool) (ns : List Name) → Alike f g ns → any f ns ≡ any g ns
+pub any-alike : (f g : Name → Bool) (ns : List Name) → Alike f g ns → any f ns ≡ any g ns
 any-alike f g ns h = any-map f ns ∙ ap (any (λ b. b)) (map-alike f g ns h) ∙ sym (any-map g ns)
 
 pub any-append : (f : Name → Bool) (ns os : List Name) → any f (ns ++ os) ≡ (any f ns || any f os)
@@ -57,6 +58,13 @@ any-append f (n ∷ ns) os = go (f n) (any-append f ns os)
     go true ih = refl
     go false ih = ih
 
+-- the names of both parts of a row
+alike-left : {B : Type 0} (f g : Name → B) (ns os : List Name) → Alike f g (ns ++ os) → Alike f g ns
+alike-left f g ns os h n e = h n (in-append ns os n ∙ ap (λ (b : Bool). b || isIn os n) e)
+
+alike-right : {B : Type 0} (f g : Name → B) (ns os : List Name) → Alike f g (ns ++ os) → Alike f g os
+alike-right f g ns os h n e = h n (in-append ns os n ∙ or-right (isIn ns n) (isIn os n) e)
+
 term-alike : (f g : Name → ℕ) (t : TermOf Name) → Alike f g (t .variables) → renamedTerm f t ≡ renamedTerm g t
 unfolding renamedTerm
 term-alike f g t h = λ i. record { negative = t .negative; magnitude = t .magnitude; variables = map-alike f g (t .variables) h i }
@@ -65,10 +73,27 @@ field-alike : (f g : Name → ℕ) (p : WrittenOf Name) → Alike f g (namesOf p
 unfolding renamedField namesOf gather
 field-alike f g [] h = refl
 field-alike f g (t ∷ p) h =
-    let split = in-append (t .variables) (namesOf p) in
-    ap₂ _∷_
-    (term-alike f g t (λ n e. h n (split n ∙ ap (λ (b : Bool). b || isIn (namesOf p) n) e)))
-    (field-alike f g p (λ n e. h n (split n ∙ or-right (isIn (t .variables) n) (isIn (namesOf p) n) e)))
+    ap₂ _∷_ (term-alike f g t (alike-left f g (t .variables) (namesOf p) h)) (field-alike f g p (alike-right f g (t .variables) (namesOf p) h))
+
+pairs-alike : (f g : Name → ℕ) (qs : List (PairOf Name)) → Alike f g (gather (λ q. namesOf (q .factor)) qs) → map (renamedPair f) qs ≡ map (renamedPair g) qs
+unfolding renamedPair gather
+pairs-alike f g [] h = refl
+pairs-alike f g (q ∷ qs) h =
+    let ns : List Name = namesOf (q .factor) in
+    let os : List Name = gather (λ q. namesOf (q .factor)) qs in
+    ap₂ _∷_ (λ i. record { index = q .index; factor = field-alike f g (q .factor) (alike-left f g ns os h) i }) (pairs-alike f g qs (alike-right f g ns os h))
+
+pub statement-alike : (f g : Name → ℕ) (st : Named) → Alike f g (namesIn st) → renamed f st ≡ renamed g st
+unfolding renamed namesIn
+statement-alike f g (ring r) h = refl
+statement-alike f g (input i p) h = ap (input i) (field-alike f g p h)
+statement-alike f g (goal p) h = ap (λ (q : Written). goal q) (field-alike f g p h)
+statement-alike f g (lin i p qs) h =
+    let ns : List Name = gather (λ q. namesOf (q .factor)) qs in
+    ap₂ (lin i) (field-alike f g p (alike-right f g ns (namesOf p) h)) (pairs-alike f g qs (alike-left f g ns (namesOf p) h))
+statement-alike f g (del i) h = refl
+statement-alike f g (ext i v p) h =
+    ap₂ (ext i) (h v (in-first v (namesOf p))) (field-alike f g p (λ n e. h n (in-more v (namesOf p) n e)))
 
 -- ---- one name: its place does not change when it comes itself
 place-self : (ms : List Name) (n : Name) → placeIn (withNames ms (n ∷ [])) n ≡ placeIn ms n
@@ -89,11 +114,11 @@ bad-self true ms n = refl
 bad-self false ms n = ap (λ (i : ℕ). ltb nameBytes (length n) || not (isVariable i)) (place-self ms n)
 
 -- ---- names that come behind ns change nothing of them
-numbers-with : (plain : Bool) (ms ns os : List Name) → Alike (numberBy plain (namesWith plain (namesWith plain ms ns) os)) (numberBy plain (namesWith plain ms ns)) ns
+pub numbers-with : (plain : Bool) (ms ns os : List Name) → Alike (numberBy plain (namesWith plain (namesWith plain ms ns) os)) (numberBy plain (namesWith plain ms ns)) ns
 numbers-with true ms ns os n e = refl
 numbers-with false ms ns os n e = place-kept (withNames ms ns) os n (name-comes ms ns n e)
 
-bad-with : (plain : Bool) (ms ns os : List Name) → Alike (badBy plain (namesWith plain (namesWith plain ms ns) os)) (badBy plain (namesWith plain ms ns)) ns
+pub bad-with : (plain : Bool) (ms ns os : List Name) → Alike (badBy plain (namesWith plain (namesWith plain ms ns) os)) (badBy plain (namesWith plain ms ns)) ns
 bad-with true ms ns os n e = refl
 bad-with false ms ns os n e = ap (λ (i : ℕ). ltb nameBytes (length n) || not (isVariable i)) (place-kept (withNames ms ns) os n (name-comes ms ns n e))
 
@@ -122,14 +147,6 @@ module _ (plain : Bool) (n : ℕ) (s : Name) (room room′ : Bytes) (r : Numbere
 
   pub number-one : r .bad ≡ false → r .number ≡ numberIn plain (r .names) room′ s
   number-one e = h .number e ∙ sym (number-self plain (held n room) s) ∙ ap (λ (ms : List Name). numberBy plain ms s) (sym (h .holds e))
-
-plain-variable : (s : Name) → isPlain s ≡ true → isVariable (plainNumber s) ≡ true
-unfolding isPlain plainNumber
-plain-variable s e = go (afterX s) e
-  where
-    go : (d : Read ℕ) → elim d [ got v r ↦ isVariable v | stuck r ↦ false ] ≡ true → isVariable (elim d [ got v r ↦ v | stuck r ↦ 0 ]) ≡ true
-    go (got v r) e = e
-    go (stuck r) e = never (sym e)
 
 pub number-variable : (plain : Bool) (ms : List Name) (s : Name) → badBy plain ms s ≡ false → isVariable (numberBy plain ms s) ≡ true
 number-variable true ms s e = plain-variable s (not-false (isPlain s) e)
@@ -189,3 +206,7 @@ module _ {plain : Bool} {n m k : ℕ} {os : List Name} {room x room′ : Bytes} 
   pub field-stays : (w : WrittenOf Name) → NamesAre plain n (namesOf w) room x m b → NamesAre plain m os x room′ k c → b ≡ false → c ≡ false
       → renamedField (numberIn plain k room′) w ≡ renamedField (numberIn plain m x) w
   field-stays w p q e f = field-alike _ _ w (number-stays p q e f)
+
+  pub pairs-stay : (qs : List (PairOf Name)) → NamesAre plain n (gather (λ q. namesOf (q .factor)) qs) room x m b → NamesAre plain m os x room′ k c → b ≡ false → c ≡ false
+      → map (renamedPair (numberIn plain k room′)) qs ≡ map (renamedPair (numberIn plain m x)) qs
+  pairs-stay qs p q e f = pairs-alike _ _ qs (number-stays p q e f)

@@ -51,7 +51,7 @@ pub struct MonomialRead {
 fn read_names(
     plain: bool,
     room: &mut [u8],
-    hints: &mut [u8],
+    hints: &mut [u16],
     n: usize,
     s: &[u8],
     at: usize,
@@ -139,7 +139,7 @@ fn no_monomial(end: usize, n: usize) -> MonomialRead
 fn behind_constant(
     plain: bool,
     room: &mut [u8],
-    hints: &mut [u8],
+    hints: &mut [u16],
     n: usize,
     s: &[u8],
     at: usize,
@@ -168,7 +168,7 @@ fn behind_constant(
 fn of_names(
     plain: bool,
     room: &mut [u8],
-    hints: &mut [u8],
+    hints: &mut [u16],
     n: usize,
     s: &[u8],
     at: usize,
@@ -201,7 +201,7 @@ fn of_names(
 pub fn read_monomial(
     plain: bool,
     room: &mut [u8],
-    hints: &mut [u8],
+    hints: &mut [u16],
     n: usize,
     s: &[u8],
     at: usize,

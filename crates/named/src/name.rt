@@ -55,7 +55,7 @@ fn number_or_zero(number: usize, bad: bool) -> usize
 pub fn read_name(
     plain: bool,
     room: &mut [u8],
-    hints: &mut [u8],
+    hints: &mut [u16],
     n: usize,
     s: &[u8],
     at: usize,

@@ -39,7 +39,7 @@ pub struct PolyRead {
 fn read_rest(
     plain: bool,
     room: &mut [u8],
-    hints: &mut [u8],
+    hints: &mut [u16],
     n: usize,
     s: &[u8],
     at: usize,
@@ -117,7 +117,7 @@ fn no_terms(end: usize, why: u64, n: usize) -> PolyRead
 pub fn read_poly(
     plain: bool,
     room: &mut [u8],
-    hints: &mut [u8],
+    hints: &mut [u16],
     n: usize,
     s: &[u8],
     at: usize,

@@ -104,7 +104,7 @@ fn bad(n: usize) -> Numbered
 }
 
 // A name by its place among the n that are held; a new one is held from now on, if it is short and there is room for it.
-fn number_by_place(room: &mut [u8], hints: &mut [u8], n: usize, s: &[u8]) -> Numbered
+fn number_by_place(room: &mut [u8], hints: &mut [u16], n: usize, s: &[u8]) -> Numbered
     requires { ⌜ Holding n (now room) × (hintCount ≤ length (now hints)) ⌝ }
     ensures { λ r. ⌜ NumberedIs false n (now (s .entry)) (now (room .entry)) (now (room .exit)) r ⌝ }
 {
@@ -126,7 +126,7 @@ fn number_by_place(room: &mut [u8], hints: &mut [u8], n: usize, s: &[u8]) -> Num
     if i == limits::VARIABLES as usize {
         return bad(n);
     }
-    hints[h] = i as u8;
+    hints[h] = i as u16;
     if i < n {
         return Numbered {
             number: i,
@@ -173,7 +173,7 @@ pub fn plain_number(s: &[u8]) -> Plain
 }
 
 // The number of a name: plain, or by its place. A bad name has none: one that is not plain, or one that is too long or a name too many.
-pub fn number_name(plain: bool, room: &mut [u8], hints: &mut [u8], n: usize, s: &[u8]) -> Numbered
+pub fn number_name(plain: bool, room: &mut [u8], hints: &mut [u16], n: usize, s: &[u8]) -> Numbered
     requires { ⌜ Holding n (now room) × (hintCount ≤ length (now hints)) ⌝ }
     ensures { λ r. ⌜ NumberedIs plain n (now (s .entry)) (now (room .entry)) (now (room .exit)) r ⌝ }
 {

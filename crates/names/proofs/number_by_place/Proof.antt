@@ -93,6 +93,7 @@ number-by-place-spec =
     returns
     (λ c κs. search needs)
     (λ c. search needs)
+    (λ c. search needs)
     cast-c
     is-name-requires
     (λ c. search needs)
@@ -102,6 +103,7 @@ number-by-place-spec =
     (λ c. search needs)
     returns-3
     cast-hints
+    (λ c. search needs)
     (λ c. search needs)
     (λ c. search needs)
     (λ c. search needs)
