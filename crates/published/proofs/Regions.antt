@@ -3,7 +3,7 @@ use mathlib.Core.Path.{_≡_, refl, sym, ap, ap₂, subst, _∙_}
 use mathlib.Core.Bool.{Bool, true, false, _&&_, _||_, not}
 use mathlib.Core.List.{List, [], _∷_, map}
 use mathlib.Core.Logic.{inl, inr, ⊎-elim}
-use Prim.Native.Nat.{ℕ, _+_, _-_, _≤_}
+use Prim.Native.Nat.{ℕ, _+_, _-_, _*_, _≤_}
 use native.Mathlib.Numerals.{add-one}
 use native.Mathlib.Omega.{arith}
 use lib.Dec.{ltb}
@@ -21,7 +21,7 @@ use Rattle.words.specs.Words.{numberOf}
 use Rattle.words.proofs.Parts.{put-part, put-within, within-wider}
 use Rattle.terms.specs.Terms.{termOf, decode}
 use Rattle.terms.proofs.Decode.{decode-part, decode-behind, behind-within}
-use Rattle.paper.specs.Grammar.{Bytes, Reader}
+use Rattle.paper.specs.Grammar.{Bytes, Reader, give}
 use Rattle.paper.specs.Statement.{WrittenOf, PairOf, renamedTerm, renamedField, within, isIndex, isVariable, isTerm, inRange, tooManyTerms, setOf}
 use Rattle.paper.specs.Rules.{first}
 use Rattle.paper.specs.Published.{Name, spaces, symbol, constant, poly, one, factor, summand, pairOf}
@@ -43,13 +43,11 @@ use Rattle.named.specs.declared.poly.PolyRead.{PolyRead}
 use Rattle.named.proofs.Tokens.{symbol-here, symbol-not}
 use Rattle.named.proofs.Naming.{any-append, number-variable, names-none}
 use Rattle.scratch.specs.Scratch.{factorAt, goalAt}
-use Rattle.published.specs.Pairs.{IdAt, IdIs, fieldRanged, fieldFew, summandRanged, summandFew, NamedAt, FactorAt, FactorIs, inParentheses, SummandIs, multipliedPair}
+use Rattle.published.specs.Pairs.{IdAt, IdIs, fieldRanged, fieldFew, summandRanged, summandFew, NamedAt, PlacedIs, FactorAt, FactorIs, inParentheses, SummandIs, multipliedPair, commaPoly}
+use Rattle.published.specs.Statements.{unnumbered}
 use Rattle.published.specs.declared.pairs.IdRead.{IdRead}
 use Rattle.published.specs.declared.pairs.SummandRead.{SummandRead}
-
--- what the two tests read names as
-abbrev unnumbered : Name → ℕ
-unnumbered n = 0
+use Rattle.published.proofs.Commas.{comma-got, comma-fails}
 
 -- ---- ids
 module _ {s : Bytes} {at : ℕ} where
@@ -100,13 +98,16 @@ field-fits plain ms (t ∷ q) e r =
     (field-fits plain ms q (or-none-right (any (badBy plain ms) (t .variables)) (any (badBy plain ms) (namesOf q)) b) (and-right (m && z) rest r))
 
 -- ---- a polynomial in a region that was lent, and came back as y
-module _ (plain : Bool) (n : ℕ) (s : Bytes) (at : ℕ) (room room′ : Bytes) (words y : List ℕ) (l : goalAt ≤ length words) (r : PolyRead) where
-  abbrev x : List ℕ
-  x = putMid factorAt (goalAt - factorAt) words y
+module _ (plain : Bool) (n : ℕ) (s : Bytes) (at : ℕ) (room room′ : Bytes) (base : ℕ) (words y : List ℕ) (l : base + fieldTerms * termWords ≤ length words) (r : PolyRead) where
+  abbrev last : ℕ
+  last = base + fieldTerms * termWords
 
-  module _ (c : PolyIs plain n s at room room′ (part factorAt (goalAt - factorAt) words) y r) where
+  abbrev x : List ℕ
+  x = putMid base (last - base) words y
+
+  module _ (c : PolyIs plain n s at room room′ (part base (last - base) words) y r) where
     placed : (h : PolyAt plain n s at room room′ y r) → fieldRanged (h .value) ≡ true → fieldFew (h .value) ≡ true → r .why ≡ ACCEPTED → r .bad ≡ false
-        → Holds (renamedField (numberIn plain (r .names) room′) (h .value)) (r .terms) factorAt x
+        → Holds (renamedField (numberIn plain (r .names) room′) (h .value)) (r .terms) base x
     unfolding tooManyTerms fieldFew renamedField
     placed h a b w d =
         let f = numberIn plain (r .names) room′ in
@@ -115,13 +116,13 @@ module _ (plain : Bool) (n : ℕ) (s : Bytes) (at : ℕ) (room room′ : Bytes) 
         let most = ltb-false fieldTerms (length (map (renamedTerm (λ n. 0)) (h .value))) short in
         let few : r .terms ≤ fieldTerms = omega (arith, h .terms, most, length-map (h .value) (renamedTerm unnumbered)) in
         record {
-          run = sym (decode-part (r .terms) factorAt (goalAt - factorAt) x (omega arith)) ∙ ap (decode (r .terms)) (put-part words y factorAt goalAt (omega arith) l (c .within .same)) ∙ h .run w d;
+          run = sym (decode-part (r .terms) base (last - base) x (omega arith)) ∙ ap (decode (r .terms)) (put-part words y base last (omega arith) l (c .within .same)) ∙ h .run w d;
           terms = h .terms ∙ sym many;
           ranged = field-fits plain (held (r .names) room′) (h .value) (ap (λ (ms : List Name). any (badBy plain ms) (namesOf (h .value))) (h .names .holds d) ∙ sym (h .names .some) ∙ d) a;
           short = ap (λ (k : ℕ). ltb fieldTerms k) (many ∙ sym (length-map (h .value) (renamedTerm unnumbered))) ∙ short;
         }
 
-    pub poly-placed : FactorIs poly plain n s at room room′ words x r
+    pub poly-placed : PlacedIs base poly plain n s at room room′ words x r
     unfolding fieldRanged fieldFew
     poly-placed = record {
       said = ⊎-elim inl (λ h.
@@ -134,7 +135,7 @@ module _ (plain : Bool) (n : ℕ) (s : Bytes) (at : ℕ) (room room′ : Bytes) 
             holds = λ a b. placed h (verdict-accepted _ (fieldFew (h .value)) (sym v ∙ a)) (verdict-few (fieldRanged (h .value)) _ (sym v ∙ a)) a b;
             named = h .names;
           })) (c .said);
-      kept = put-within words y factorAt goalAt (omega arith) l (c .within .same);
+      kept = put-within words y base last (omega arith) l (c .within .same);
     }
 
 -- ---- what is read is no FORM
@@ -257,15 +258,11 @@ module _ (s : Bytes) (at : ℕ) where
         (got-then constant _ (h .taken) (got-then factor _ (g .taken) (got-give (pairOf (h .value) (g .value)) (g .taken .inside))))
 
     -- behind a comma
-    pub comma-missing : standsAt s (i .end) 44 ≡ false → Fails multipliedPair s at (i .end)
-    comma-missing q = fails-then constant _ (h .taken) (fails-first (symbol 44) _ (symbol-not s (i .end) 44 (h .taken .inside) q))
+    pub product-stuck : {e : ℕ} → Fails commaPoly s (i .end) e → Fails multipliedPair s at e
+    product-stuck f = fails-then constant _ (h .taken) (comma-fails (λ q. give (pairOf (h .value) q)) f)
 
-    module _ (here : standsAt s (i .end) 44 ≡ true) {j : ℕ} (k : Got spaces s (i .end + 1) tt j) where
-      pub product-stuck : {e : ℕ} → Fails poly s j e → Fails multipliedPair s at e
-      product-stuck f = fails-then constant _ (h .taken) (fails-then (symbol 44) _ (symbol-here s (i .end) 44 here k) (fails-first poly _ f))
-
-      pub product-took : {plain : Bool} {n : ℕ} {room room′ : Bytes} {words words′ : List ℕ} (f : PolyRead) → FactorAt poly plain n s j room room′ words′ f
-          → Within factorAt goalAt words words′ → (why : ℕ) → why ≡ lesserOf (i .why) (f .why)
-          → SummandIs multipliedPair plain n s at room room′ words words′ (record { index = i .value; terms = f .terms; end = f .end; why = why; names = f .names; bad = f .bad })
-      product-took f g w why c = pair-took f g w why c
-          (got-then constant _ (h .taken) (got-then (symbol 44) _ (symbol-here s (i .end) 44 here k) (got-then poly _ (g .taken) (got-give (pairOf (h .value) (g .value)) (g .taken .inside)))))
+    pub product-took : {plain : Bool} {n : ℕ} {room room′ : Bytes} {words words′ : List ℕ} (f : PolyRead) → FactorAt commaPoly plain n s (i .end) room room′ words′ f
+        → Within factorAt goalAt words words′ → (why : ℕ) → why ≡ lesserOf (i .why) (f .why)
+        → SummandIs multipliedPair plain n s at room room′ words words′ (record { index = i .value; terms = f .terms; end = f .end; why = why; names = f .names; bad = f .bad })
+    product-took f g w why c = pair-took f g w why c
+        (got-then constant _ (h .taken) (comma-got (λ q. give (pairOf (h .value) q)) (g .taken) (got-give (pairOf (h .value) (g .value)) (g .taken .inside))))

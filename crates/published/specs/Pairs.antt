@@ -1,27 +1,30 @@
 -- What is read of the pairs of a linear combination in published texts, with the numbers of names.
 use mathlib.Core.Path.{_≡_}
-use mathlib.Core.Bool.{Bool, false, _&&_, not, cond}
-use mathlib.Core.List.{List, map}
-use Prim.Native.Nat.{ℕ}
+use mathlib.Core.Bool.{Bool, false, _&&_, _||_, not, cond}
+use mathlib.Core.List.{List, [], _∷_, _++_, map}
+use Prim.Native.Nat.{ℕ, _+_, _*_}
 use Prim.Native.Char.{code}
+use lib.Dec.{eqb}
+use Rattle.limits.specs.Limits.{fieldTerms, termWords}
 use Rattle.limits.specs.Verdicts.{ACCEPTED, NUMBER}
 use Rattle.ground.specs.Lists.{every, gather}
 use Rattle.words.specs.Parts.{Within}
 use Rattle.paper.specs.Grammar.{Bytes, Reader, _>>=_, _>>_, give}
-use Rattle.paper.specs.Statement.{WrittenOf, PairOf, renamedField, renamedPair, isIndex, inRange, tooManyTerms}
+use Rattle.paper.specs.Statement.{WrittenOf, PairOf, Pair, renamedField, renamedPair, isIndex, inRange, tooManyTerms}
 use Rattle.paper.specs.Rules.{Store}
-use Rattle.paper.specs.Published.{Name, spaces, symbol, constant, poly, pairOf}
+use Rattle.paper.specs.Published.{Name, spaces, symbol, constant, poly, pairOf, summands, addends, multiplied}
 use Rattle.paper.specs.Named.{namesOf}
 use Rattle.written.specs.Worded.{Holds}
 use Rattle.reader.specs.Places.{Got}
-use Rattle.reader.specs.Verdicts.{verdictOf}
+use Rattle.reader.specs.Verdicts.{verdictOf, lesserOf}
 use Rattle.named.specs.Reads.{StopsOr, NamesAre, numberIn}
 use Rattle.named.specs.declared.poly.PolyRead.{PolyRead}
 use Rattle.scratch.specs.Scratch.{factorAt, goalAt, Kept}
+use Rattle.sums.specs.declared.Sum.{Sum}
 use Rattle.sums.specs.Sums.{Summed}
 use Rattle.published.specs.declared.pairs.IdRead.{IdRead}
 use Rattle.published.specs.declared.pairs.SummandRead.{SummandRead}
-use Rattle.published.specs.declared.pairs.SumRead.{SumRead}
+use Rattle.published.specs.declared.combination.SumRead.{SumRead}
 
 -- ---- an id
 pub record IdAt (s : Bytes) (at : ℕ) (r : IdRead) : Type 0 where
@@ -55,14 +58,21 @@ pub record NamedAt {A : Type 0} (read : Reader A) (ranged few : A → Bool) (nam
   pub holds : why ≡ ACCEPTED → bad ≡ false → P (numberIn plain held room′) value
   pub named : NamesAre plain n (names value) room room′ held bad
 
--- ---- a polynomial in the factor's region
-abbrev pub FactorAt : Reader (WrittenOf Name) → Bool → ℕ → Bytes → ℕ → Bytes → Bytes → List ℕ → PolyRead → Type 0
-FactorAt read plain n s at room room′ words′ r =
-    NamedAt read fieldRanged fieldFew namesOf (λ f q. Holds (renamedField f q) (r .terms) factorAt words′) plain n s at room room′ (r .end) (r .why) (r .names) (r .bad)
+-- ---- a polynomial in the region from word base on
+abbrev pub PlacedAt : ℕ → Reader (WrittenOf Name) → Bool → ℕ → Bytes → ℕ → Bytes → Bytes → List ℕ → PolyRead → Type 0
+PlacedAt base read plain n s at room room′ words′ r =
+    NamedAt read fieldRanged fieldFew namesOf (λ f q. Holds (renamedField f q) (r .terms) base words′) plain n s at room room′ (r .end) (r .why) (r .names) (r .bad)
 
-pub record FactorIs (read : Reader (WrittenOf Name)) (plain : Bool) (n : ℕ) (s : Bytes) (at : ℕ) (room room′ : Bytes) (words words′ : List ℕ) (r : PolyRead) : Type 0 where
-  pub said : StopsOr read s at (r .end) (r .why) (FactorAt read plain n s at room room′ words′ r)
-  pub kept : Within factorAt goalAt words words′
+pub record PlacedIs (base : ℕ) (read : Reader (WrittenOf Name)) (plain : Bool) (n : ℕ) (s : Bytes) (at : ℕ) (room room′ : Bytes) (words words′ : List ℕ) (r : PolyRead) : Type 0 where
+  pub said : StopsOr read s at (r .end) (r .why) (PlacedAt base read plain n s at room room′ words′ r)
+  pub kept : Within base (base + fieldTerms * termWords) words words′
+
+-- in the factor's
+abbrev pub FactorAt : Reader (WrittenOf Name) → Bool → ℕ → Bytes → ℕ → Bytes → Bytes → List ℕ → PolyRead → Type 0
+FactorAt = PlacedAt factorAt
+
+abbrev pub FactorIs : Reader (WrittenOf Name) → Bool → ℕ → Bytes → ℕ → Bytes → Bytes → List ℕ → List ℕ → PolyRead → Type 0
+FactorIs = PlacedIs factorAt
 
 -- behind a *
 abbrev pub inParentheses : Reader (WrittenOf Name)
@@ -82,9 +92,31 @@ pub record SummandIs (read : Reader (PairOf Name)) (plain : Bool) (n : ℕ) (s :
 abbrev pub multipliedPair : Reader (PairOf Name)
 multipliedPair = do j ← constant; symbol (code ","); q ← poly; give (pairOf j q)
 
+-- ---- one pair more behind others that have a verdict, a bad name or none, and a sum
+pub record AddedAt (k : ℕ) (store : Store) (read : Reader (PairOf Name)) (plain : Bool) (n : ℕ) (s : Bytes) (at : ℕ) (room room′ : Bytes) (words words′ : List ℕ) (why : ℕ) (bad : Bool) (sum : Sum) (r : SumRead) : Type 0 where
+  pub value : PairOf Name
+  pub taken : Got read s at value (r .end)
+  pub verdict : r .why ≡ lesserOf why (verdictOf (summandRanged value) (summandFew value))
+  pub own : Bool
+  pub some : r .bad ≡ (bad || own)
+  pub named : NamesAre plain n (namesOf (value .factor)) room room′ (r .names) own
+  pub summed : r .why ≡ ACCEPTED → r .bad ≡ false → (qs : List Pair) → Summed k store qs words sum
+      → Summed k store (qs ++ (renamedPair (numberIn plain (r .names) room′) value ∷ [])) words′ (r .sum)
+
+pub record AddedIs (k : ℕ) (store : Store) (read : Reader (PairOf Name)) (plain : Bool) (n : ℕ) (s : Bytes) (at : ℕ) (room room′ : Bytes) (words words′ : List ℕ) (why : ℕ) (bad : Bool) (sum : Sum) (r : SumRead) : Type 0 where
+  pub said : StopsOr read s at (r .end) (r .why) (AddedAt k store read plain n s at room room′ words words′ why bad sum r)
+  pub kept : Kept words words′
+
 -- ---- pairs, with their sum over a store at k
 pub record SumIs (k : ℕ) (store : Store) (pairs : Reader (List (PairOf Name))) (plain : Bool) (n : ℕ) (s : Bytes) (at : ℕ) (room room′ : Bytes) (words words′ : List ℕ) (r : SumRead) : Type 0 where
   pub said : StopsOr pairs s at (r .end) (r .why)
       (NamedAt pairs (every summandRanged) (every summandFew) (gather (λ q. namesOf (q .factor))) (λ f qs. Summed k store (map (renamedPair f) qs) words′ (r .sum))
       plain n s at room room′ (r .end) (r .why) (r .names) (r .bad))
   pub kept : Kept words words′
+
+-- ---- which pairs stand behind a sign, and the polynomial behind a comma
+abbrev pub pairsBehind : ℕ → Reader (List (PairOf Name))
+pairsBehind b = cond (eqb b (code "%")) summands (cond (eqb b (code "+")) addends multiplied)
+
+abbrev pub commaPoly : Reader (WrittenOf Name)
+commaPoly = do symbol (code ","); poly

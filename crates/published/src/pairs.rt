@@ -1,20 +1,17 @@
 // The pairs of a linear combination: ids and factors, each read once.
 ghost use mathlib.Core.Path.{_≡_};
 ghost use mathlib.Core.Bool.{false};
-ghost use mathlib.Core.List.{List, [], _∷_, _++_};
-ghost use Prim.Native.Nat.{ℕ, _≤_, _<_};
+ghost use Prim.Native.Nat.{ℕ, _+_, _*_, _≤_};
 ghost use lib.ListN.{length};
-ghost use Rattle.limits.specs.Limits.{leastScratch};
-ghost use Rattle.limits.specs.Verdicts.{ACCEPTED, FORM};
+ghost use Rattle.limits.specs.Limits.{fieldTerms, termWords, leastScratch};
+ghost use Rattle.limits.specs.Verdicts.{FORM};
 ghost use Rattle.words.specs.Parts.{Within};
-ghost use Rattle.paper.specs.Statement.{Written, Pair, renamedField};
-ghost use Rattle.paper.specs.Published.{Name, one, poly, factor, summand, multiplied};
+ghost use Rattle.paper.specs.Statement.{renamedField};
+ghost use Rattle.paper.specs.Published.{Name, one, poly, factor, summand};
 ghost use Rattle.written.specs.Worded.{Holds};
 ghost use Rattle.names.specs.Names.{Holding, hintCount};
-ghost use Rattle.scratch.specs.Scratch.{factorAt, goalAt, Kept};
-ghost use Rattle.table.specs.Table.{storeOfColumns};
-ghost use Rattle.sums.specs.Sums.{PoolHolds, Summed};
-ghost use Rattle.published.specs.Pairs.{IdIs, FactorIs, inParentheses, SummandIs, multipliedPair, SumIs};
+ghost use Rattle.scratch.specs.Scratch.{factorAt, goalAt};
+ghost use Rattle.published.specs.Pairs.{IdIs, PlacedIs, FactorIs, inParentheses, SummandIs, commaPoly};
 use named::poly::PolyRead;
 use named::poly::read_poly;
 use named::token::constant_at;
@@ -23,11 +20,6 @@ use reader::number::Number;
 use reader::number::refused;
 use reader::term::stands_at;
 use reader::verdict::lesser;
-use sums::Sum;
-use sums::add_factor;
-use table::Counts;
-use table::Indices;
-use table::Starts;
 
 // An id and its end: ACCEPTED or NUMBER. Or FORM, and its end is the place where it stops.
 pub struct IdRead {
@@ -69,7 +61,7 @@ pub(crate) fn read_id(s: &[u8], at: usize) -> IdRead
 }
 
 // Puts the polynomial 1 into the factor's region.
-fn put_one(scratch: &mut [u64])
+pub(crate) fn put_one(scratch: &mut [u64])
     requires { ⌜ leastScratch ≤ length (now scratch) ⌝ }
     ensures holds { λ _. ⌜ ((f : Name → ℕ) → Holds (renamedField f one) 1 factorAt (now (scratch .exit))) ⌝ }
     ensures kept { λ _. ⌜ Within factorAt goalAt (now (scratch .entry)) (now (scratch .exit)) ⌝ }
@@ -78,27 +70,56 @@ fn put_one(scratch: &mut [u64])
     terms::write_term(scratch, scratch::FACTOR, t);
 }
 
-// The polynomial at at, put into the factor's region.
-fn read_polynomial(
+// The polynomial at at, put into the region from word base on.
+pub(crate) fn read_polynomial(
     plain: bool,
     room: &mut [u8],
-    hints: &mut [u8],
+    hints: &mut [u16],
     n: usize,
     s: &[u8],
     at: usize,
     scratch: &mut [u64],
+    base: usize,
 ) -> PolyRead
-    requires { ⌜ Holding n (now room) × (hintCount ≤ length (now hints)) × (at ≤ length (now s)) × (leastScratch ≤ length (now scratch)) ⌝ }
-    ensures { λ r. ⌜ FactorIs poly plain n (now (s .entry)) at (now (room .entry)) (now (room .exit)) (now (scratch .entry)) (now (scratch .exit)) r ⌝ }
+    requires { ⌜ Holding n (now room) × (hintCount ≤ length (now hints)) × (at ≤ length (now s)) × (base + fieldTerms * termWords ≤ length (now scratch)) ⌝ }
+    ensures { λ r. ⌜ PlacedIs base poly plain n (now (s .entry)) at (now (room .entry)) (now (room .exit)) (now (scratch .entry)) (now (scratch .exit)) r ⌝ }
 {
-    read_poly(
+    let last = base + scratch::REGION;
+    read_poly(plain, room, hints, n, s, at, &mut scratch[base..last])
+}
+
+// The polynomial behind the comma at at, put into the region from word base on.
+pub(crate) fn behind_comma(
+    plain: bool,
+    room: &mut [u8],
+    hints: &mut [u16],
+    n: usize,
+    s: &[u8],
+    at: usize,
+    scratch: &mut [u64],
+    base: usize,
+) -> PolyRead
+    requires { ⌜ Holding n (now room) × (hintCount ≤ length (now hints)) × (at ≤ length (now s)) × (base + fieldTerms * termWords ≤ length (now scratch)) ⌝ }
+    ensures { λ r. ⌜ PlacedIs base commaPoly plain n (now (s .entry)) at (now (room .entry)) (now (room .exit)) (now (scratch .entry)) (now (scratch .exit)) r ⌝ }
+{
+    if !stands_at(s, at, b',') {
+        return PolyRead {
+            why: limits::FORM,
+            end: at,
+            terms: 0,
+            names: n,
+            bad: false,
+        };
+    }
+    read_polynomial(
         plain,
         room,
         hints,
         n,
         s,
-        at,
-        &mut scratch[scratch::FACTOR..scratch::GOAL],
+        skip_spaces(s, at + 1),
+        scratch,
+        base,
     )
 }
 
@@ -119,7 +140,7 @@ fn no_factor(end: usize, n: usize) -> PolyRead
 fn in_parentheses(
     plain: bool,
     room: &mut [u8],
-    hints: &mut [u8],
+    hints: &mut [u16],
     n: usize,
     s: &[u8],
     at: usize,
@@ -140,6 +161,7 @@ fn in_parentheses(
         s,
         skip_spaces(s, opened + 1),
         scratch,
+        scratch::FACTOR,
     );
     if p.why == limits::FORM {
         return no_factor(p.end, n);
@@ -160,7 +182,7 @@ fn in_parentheses(
 fn read_factor(
     plain: bool,
     room: &mut [u8],
-    hints: &mut [u8],
+    hints: &mut [u16],
     n: usize,
     s: &[u8],
     at: usize,
@@ -183,7 +205,7 @@ fn read_factor(
 }
 
 // A summand that stops.
-fn no_summand(end: usize, n: usize) -> SummandRead
+pub(crate) fn no_summand(end: usize, n: usize) -> SummandRead
     ensures { λ r. ⌜ r ≡ record { index = 0; terms = 0; end = end; why = FORM; names = n; bad = false } ⌝ }
 {
     SummandRead {
@@ -200,7 +222,7 @@ fn no_summand(end: usize, n: usize) -> SummandRead
 pub(crate) fn read_summand(
     plain: bool,
     room: &mut [u8],
-    hints: &mut [u8],
+    hints: &mut [u16],
     n: usize,
     s: &[u8],
     at: usize,
@@ -224,150 +246,5 @@ pub(crate) fn read_summand(
         why: lesser(i.why, f.why),
         names: f.names,
         bad: f.bad,
-    }
-}
-
-// Pairs with their sum, where nothing refuses them and none of their names is bad; how many names are held with theirs, and whether one of
-// them is bad. Or FORM, and the end is the place where they stop.
-pub struct SumRead {
-    pub sum: Sum,
-    pub end: usize,
-    pub why: u64,
-    pub names: usize,
-    pub bad: bool,
-}
-
-// The pair of PAC's product at at: an id, and a polynomial behind a comma.
-fn read_product(
-    plain: bool,
-    room: &mut [u8],
-    hints: &mut [u8],
-    n: usize,
-    s: &[u8],
-    at: usize,
-    scratch: &mut [u64],
-) -> SummandRead
-    requires { ⌜ Holding n (now room) × (hintCount ≤ length (now hints)) × (at ≤ length (now s)) × (leastScratch ≤ length (now scratch)) ⌝ }
-    ensures { λ r. ⌜ SummandIs multipliedPair plain n (now (s .entry)) at (now (room .entry)) (now (room .exit)) (now (scratch .entry)) (now (scratch .exit)) r ⌝ }
-{
-    let i = read_id(s, at);
-    if i.why == limits::FORM {
-        return no_summand(i.end, n);
-    }
-    if !stands_at(s, i.end, b',') {
-        return no_summand(i.end, n);
-    }
-    let f = read_polynomial(plain, room, hints, n, s, skip_spaces(s, i.end + 1), scratch);
-    if f.why == limits::FORM {
-        return no_summand(f.end, n);
-    }
-    SummandRead {
-        index: i.value,
-        terms: f.terms,
-        end: f.end,
-        why: lesser(i.why, f.why),
-        names: f.names,
-        bad: f.bad,
-    }
-}
-
-// The sum with the pair whose factor stands in its region, where nothing refuses it so far and no name is bad.
-fn add_read<'a>(
-    indices: &'a Indices,
-    starts: &'a Starts,
-    counts: &'a Counts,
-    stored: usize,
-    pool: &[u64],
-    scratch: &mut [u64],
-    k: u32,
-    index: u32,
-    terms: usize,
-    why: u64,
-    bad: bool,
-    sum: Sum,
-) -> Sum
-    requires { ⌜
-        PoolHolds (now starts) (now counts) stored (now pool) × (0 < stored → (1 ≤ k) × (k ≤ 64)) × (leastScratch ≤ length (now scratch))
-        × (why ≡ ACCEPTED → bad ≡ false → ((w : Written) × Holds w terms factorAt (now scratch)) × ((qs : List Pair) × Summed k (storeOfColumns (now indices) (now starts) (now counts) (now pool) stored) qs (now scratch) sum))
-        ⌝ }
-    ensures summed { λ r. ⌜
-        (why ≡ ACCEPTED → bad ≡ false → (w : Written) → Holds w terms factorAt (now (scratch .entry))
-        → (qs : List Pair) → Summed k (storeOfColumns (now (indices .entry)) (now (starts .entry)) (now (counts .entry)) (now (pool .entry)) stored) qs (now (scratch .entry)) sum
-        → Summed k (storeOfColumns (now (indices .entry)) (now (starts .entry)) (now (counts .entry)) (now (pool .entry)) stored) (qs ++ (record { index = index; factor = w } ∷ [])) (now (scratch .exit)) r)
-        ⌝ }
-    ensures kept { λ _. ⌜ Kept (now (scratch .entry)) (now (scratch .exit)) ⌝ }
-{
-    if why != limits::ACCEPTED {
-        return sum;
-    }
-    if bad {
-        return sum;
-    }
-    add_factor(
-        indices,
-        starts,
-        counts,
-        stored,
-        pool,
-        scratch,
-        k,
-        index,
-        terms,
-        sum,
-    )
-}
-
-// The pair of PAC's product at at, and its sum.
-pub(crate) fn read_multiplied<'a>(
-    indices: &'a Indices,
-    starts: &'a Starts,
-    counts: &'a Counts,
-    stored: usize,
-    pool: &[u64],
-    k: u32,
-    plain: bool,
-    room: &mut [u8],
-    hints: &mut [u8],
-    n: usize,
-    s: &[u8],
-    at: usize,
-    scratch: &mut [u64],
-) -> SumRead
-    requires { ⌜
-        PoolHolds (now starts) (now counts) stored (now pool) × (0 < stored → (1 ≤ k) × (k ≤ 64)) × Holding n (now room) × (hintCount ≤ length (now hints)) × (at ≤ length (now s))
-        × (leastScratch ≤ length (now scratch))
-        ⌝ }
-    ensures { λ r. ⌜ SumIs k (storeOfColumns (now (indices .entry)) (now (starts .entry)) (now (counts .entry)) (now (pool .entry)) stored) multiplied plain n (now (s .entry)) at (now (room .entry)) (now (room .exit)) (now (scratch .entry)) (now (scratch .exit)) r ⌝ }
-{
-    let q = read_product(plain, room, hints, n, s, at, scratch);
-    if q.why == limits::FORM {
-        return SumRead {
-            sum: Sum::none(),
-            end: q.end,
-            why: q.why,
-            names: n,
-            bad: false,
-        };
-    }
-    let none = Sum::none();
-    SumRead {
-        sum: add_read(
-            indices,
-            starts,
-            counts,
-            stored,
-            pool,
-            scratch,
-            k,
-            q.index,
-            q.terms,
-            q.why,
-            q.bad,
-            none,
-        ),
-        end: q.end,
-        why: q.why,
-        names: q.names,
-        bad: q.bad,
     }
 }

@@ -1,10 +1,10 @@
--- `published::pairs::add_read` meets its contract: the pair is added, or nothing is. No loop. Assumes nothing.
+-- `published::combination::add_read` meets its contract: the pair is added, or nothing is. No loop. Assumes nothing.
 use mathlib.Core.Path.{sym, _∙_}
 use borrow.Author.Needs.{needs}
 use Rattle.scratch.proofs.Keeping.{kept-refl}
 use Rattle.paper.proofs.Names.{never}
-use Rattle.published.proofs.pairs.add_read.Statement.{statement}
-use Rattle.published.proofs.pairs.add_read.Tie as tie
+use Rattle.published.proofs.combination.add_read.Statement.{statement}
+use Rattle.published.proofs.combination.add_read.Tie as tie
 
 returns : tie.Need-returns
 returns c = (λ a b w h qs u. absurd (c .if1 .taken a), kept-refl)
