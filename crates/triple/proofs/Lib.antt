@@ -1,0 +1,11 @@
+pub mod Agreeing
+pub mod ReadItems
+pub mod Starting
+pub mod Places
+pub mod Telling
+pub mod Plainly
+pub mod Underway
+pub mod Passing
+pub mod Checking
+pub mod TooLong
+pub mod Decided
