@@ -1,4 +1,4 @@
-/* The host call of the proved checker. Link target/staticlib/liblpac_host.a, which `rt staticlib lpac_host` writes. */
+/* The host calls of the proved checker. Link target/staticlib/liblpac_host.a, which `rt staticlib lpac_host` writes. */
 #ifndef LPAC_H
 #define LPAC_H
 
@@ -16,7 +16,15 @@ extern "C" {
    of threads may call at once. A text above 65,536 bytes is LPAC_LONGTEXT and is not read. */
 uint64_t lpac_verdict(const uint8_t *text, size_t bytes);
 
-/* LPAC_SHORT is never given here: the call's own room is enough. */
+/* Checks constraints, target and proof as LPAC is published, modulo 2^k, and gives verdict + 32 * line.
+   The line is the refused statement's place over the three texts, from 1 upward. All that is said of `text` holds of each of
+   the three, which may overlap; the stack is some 170 KB. Together above 65,536 bytes they are LPAC_LONGTEXT and not read; k
+   outside 1 to 64 is LPAC_NUMBER at line 0. */
+uint64_t lpac_published_verdict(uint64_t k, const uint8_t *constraints, size_t constraints_bytes, const uint8_t *target,
+                                size_t target_bytes, const uint8_t *proof, size_t proof_bytes);
+
+/* LPAC_SHORT is never given here: the calls' own room is enough. LPAC_ORDER is given for lines alone, LPAC_NAMES for published
+   texts alone. */
 enum lpac_number {
     LPAC_ACCEPTED = 0,
     LPAC_SHORT = 1,
@@ -34,12 +42,14 @@ enum lpac_number {
     LPAC_NOTBIT = 13,
     LPAC_FULL = 14,
     LPAC_NOGOAL = 15,
-    LPAC_NOTREACHED = 16
+    LPAC_NOTREACHED = 16,
+    LPAC_NAMES = 17
 };
 
 static inline enum lpac_number lpac_number_of(uint64_t answer) { return (enum lpac_number)(answer % 32); }
 
-/* The refused line from 1 upward; the count of lines for LPAC_NOGOAL and LPAC_NOTREACHED; 0 for ACCEPTED and LONGTEXT. */
+/* The refused line or statement from 1 upward; for LPAC_NOGOAL and LPAC_NOTREACHED how many there are, the constraints alone where
+   the target is empty; 0 for LPAC_ACCEPTED, LPAC_LONGTEXT and a k out of range. */
 static inline uint64_t lpac_line_of(uint64_t answer) { return answer / 32; }
 
 #ifdef __cplusplus

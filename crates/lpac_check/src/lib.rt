@@ -6,21 +6,20 @@ ghost use Rattle.limits.specs.Limits.{hostTextBytes};
 ghost use Rattle.program.specs.Program.{Status};
 use checker::answer::Answer;
 use libc::STDIN_FILENO;
-use libc::STDOUT_FILENO;
 
-// Writes a number and the byte behind it, and tells whether both were written.
-fn say(n: u64, behind: &[u8]) -> bool {
-    io::print_decimal(STDOUT_FILENO, n) & io::write_all(STDOUT_FILENO, behind)
-}
-
-// Writes the six numbers of an answer, and tells whether all were written.
-fn say_answer(a: Answer) -> bool {
-    say(a.verdict, b"\t")
-        & say(a.line, b"\t")
-        & say(a.index, b"\t")
-        & say(a.products, b"\t")
-        & say(a.polynomials, b"\t")
-        & say(a.terms, b"\n")
+// Writes an answer, and gives the status for it.
+fn say(a: Answer) -> u32
+    ensures { λ r. ⌜ Status r ⌝ }
+{
+    program::say_answer(
+        a.verdict,
+        a.line,
+        a.index,
+        a.products,
+        a.polynomials,
+        a.terms,
+        b"lpac_check: the answer cannot be written\n",
+    )
 }
 
 // Reads a text into a room that holds more than is taken, so that a longer text is known by its length, and says the answer.
@@ -33,10 +32,7 @@ fn answer_input(text: &mut [u8]) -> u32
         return program::fail(b"lpac_check: standard input cannot be read\n");
     }
     let n = i.bytes;
-    program::status(
-        say_answer(lpac_host::host_answer(&text[..n])),
-        b"lpac_check: the answer cannot be written\n",
-    )
+    say(lpac_host::host_answer(&text[..n]))
 }
 
 // The program. Its result is the exit status: 0 where an answer was given, 2 where none was.
