@@ -27,11 +27,16 @@ same-answer a b e = λ i. record {
 same-room : (room : List ℕ) {p r : List ℕ} {v w : ℕ} → v ≡ w → p ≡ roomAfter v room → r ≡ roomAfter w room → p ≡ r
 same-room room e f g = f ∙ ap (λ (x : ℕ). roomAfter x room) e ∙ sym g
 
-pub decided : Decided
-decided text pool scratch a b p q r s c d =
-    let e : answerOf a ≡ answerOf b = c .answer ∙ sym (d .answer) in
+-- two answers by one of the paper, with their rooms afterwards
+pub same-results : {x : paper.Answer} (pool scratch : List ℕ) {a b : Answer} {p q r s : List ℕ} → answerOf a ≡ x → answerOf b ≡ x → p ≡ roomAfter (a .verdict) pool → q ≡ roomAfter (a .verdict) scratch
+    → r ≡ roomAfter (b .verdict) pool → s ≡ roomAfter (b .verdict) scratch → (a ≡ b) × (p ≡ r) × (q ≡ s)
+same-results pool scratch {a} {b} f g p q r s =
+    let e : answerOf a ≡ answerOf b = f ∙ sym g in
     let v : a .verdict ≡ b .verdict = ap (λ (x : paper.Answer). x .verdict) e in
-    (same-answer a b e, same-room pool v (c .pool-after) (d .pool-after), same-room scratch v (c .scratch-after) (d .scratch-after))
+    (same-answer a b e, same-room pool v p r, same-room scratch v q s)
+
+pub decided : Decided
+decided text pool scratch a b p q r s c d = same-results pool scratch (c .answer) (d .answer) (c .pool-after) (c .scratch-after) (d .pool-after) (d .scratch-after)
 
 pub checked-is-sound : CheckedIsSound
 checked-is-sound text pool scratch a p q c e =
