@@ -2,10 +2,10 @@
 
 mod common;
 
-use common::{at_root, run, run_check_program, run_lpac};
+use common::{at_root, c_example, run, run_check_program, run_lpac};
 use lofashunge::host::{self, VERDICTS};
 use lofashunge::multiplier::{self, Style};
-use std::path::{Path, PathBuf};
+use std::path::Path;
 use std::process::{Command, Output};
 
 /// Each file with what the command says of it, and its verdict and line.
@@ -61,25 +61,6 @@ fn the_multiplier_is_the_one_that_the_maker_makes() {
 }
 
 // ---- C
-
-fn c_example() -> PathBuf {
-    let program = Path::new(env!("CARGO_TARGET_TMPDIR")).join("check");
-    let mut gcc = Command::new("gcc");
-    gcc.args([
-        "-std=c11",
-        "-O2",
-        "-Wall",
-        "-Wextra",
-        "-Werror",
-        "-Iinclude",
-        "examples/c/check.c",
-        "target/staticlib/liblpac_host.a",
-        "-o",
-    ]);
-    let built = gcc.arg(&program).current_dir(at_root("")).output().expect("gcc is there");
-    assert!(built.status.success(), "{}", String::from_utf8_lossy(&built.stderr));
-    program
-}
 
 #[test]
 fn the_c_example_gives_the_same_verdict_and_line() {

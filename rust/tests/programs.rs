@@ -3,7 +3,7 @@
 
 mod common;
 
-use common::{accepted_text, at_root, program, run, SAMPLE};
+use common::{accepted_text, at_root, fails, program, run, SAMPLE};
 use std::fs::{read, File, OpenOptions};
 use std::io::{ErrorKind, Read, Write};
 use std::net::{TcpListener, TcpStream};
@@ -63,13 +63,6 @@ fn run_from(command: &mut Command, input: impl Into<Stdio>) -> Output {
     command.stdin(input).output().expect("the program is there")
 }
 
-/// Status 2, no answer, and one line that names the program.
-fn fails(name: &str, said: Output) {
-    assert_eq!((said.status.code(), said.stdout), (Some(2), vec![]));
-    let words = String::from_utf8(said.stderr).unwrap();
-    assert!(words.starts_with(&format!("{name}: ")) && words.ends_with('\n') && words.lines().count() == 1, "{words}");
-}
-
 /// An input that holds some bytes and fails behind them. The sender closes while it has not read what was sent to it, so that
 /// the kernel resets the connection; by then its bytes have come.
 fn failing_behind(bytes: &[u8]) -> OwnedFd {
@@ -87,14 +80,14 @@ fn failing_behind(bytes: &[u8]) -> OwnedFd {
 #[test]
 fn a_directory_is_no_input() {
     for name in PROGRAMS {
-        fails(name, run_from(&mut program(name), File::open(at_root("examples")).unwrap()));
+        fails(run_from(&mut program(name), File::open(at_root("examples")).unwrap()), &format!("{name}: "));
     }
 }
 
 #[test]
 fn an_input_that_fails_midway_has_no_answer() {
     for (name, beginning) in PROGRAMS.into_iter().zip([SAMPLE, FIELD]) {
-        fails(name, run_from(&mut program(name), failing_behind(beginning)));
+        fails(run_from(&mut program(name), failing_behind(beginning)), &format!("{name}: "));
     }
 }
 
@@ -112,7 +105,7 @@ fn such_an_input_holds_its_beginning_and_then_fails() {
 #[test]
 fn the_command_tells_of_such_inputs_too() {
     for input in [Stdio::from(failing_behind(SAMPLE)), Stdio::from(File::open(at_root("examples")).unwrap())] {
-        fails("lpac", run_from(Command::new(env!("CARGO_BIN_EXE_lpac")).args(["check", "-"]), input));
+        fails(run_from(Command::new(env!("CARGO_BIN_EXE_lpac")).args(["check", "-"]), input), "lpac: ");
     }
 }
 

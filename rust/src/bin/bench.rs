@@ -2,9 +2,10 @@
 //!
 //! `bench` times the host call, the independent checker and a loop that only looks at each byte, in turns in one run.
 //! `bench names` and `bench text NAME` write the texts. For a tool that counts instructions, `bench proved`, `bench independent` and
-//! `bench floor` take one from standard input, and `bench reduce N ORDER` reduces a run of N terms.
+//! `bench floor` take one from standard input, `bench lines FILE` and `bench published K CONSTRAINTS TARGET PROOF` give files to the
+//! host calls, and `bench reduce N ORDER` reduces a run of N terms.
 
-use lofashunge::host;
+use lofashunge::host::{self, Verdict};
 use lofashunge::independent::{self, Answer, POOL, SCRATCH};
 use lofashunge::rooms::{self, TERM_WORDS};
 use lofashunge::worst::{self, Measured};
@@ -91,6 +92,14 @@ fn text_from_input() -> Vec<u8> {
     text
 }
 
+fn text_of(file: &str) -> Vec<u8> {
+    std::fs::read(file).expect("the file can be read")
+}
+
+fn say(verdict: Verdict) {
+    println!("{}\t{}", verdict.number, verdict.line);
+}
+
 fn main() {
     let args: Vec<String> = std::env::args().skip(1).collect();
     let words: Vec<&str> = args.iter().map(String::as_str).collect();
@@ -105,7 +114,14 @@ fn main() {
         ["proved"] => println!("{}", proved(&text_from_input())),
         ["independent"] => println!("{}", independently(&text_from_input(), &mut vec![0; POOL + SCRATCH])),
         ["floor"] => println!("{}", floor(&text_from_input())),
+        ["lines", file] => say(host::check(&text_of(file))),
+        ["published", k, constraints, target, proof] => {
+            let k = k.parse().expect("k is a number");
+            say(host::check_published(k, &text_of(constraints), &text_of(target), &text_of(proof)));
+        }
         ["reduce", n, order] => println!("{}", reduced(n.parse().expect("a count of terms"), order)),
-        _ => panic!("usage: bench [names | text NAME | proved | independent | floor | reduce N ORDER]"),
+        _ => panic!(
+            "usage: bench [names | text NAME | proved | independent | floor | lines FILE | published K CONSTRAINTS TARGET PROOF | reduce N ORDER]"
+        ),
     }
 }
