@@ -49,8 +49,10 @@ for proof in lpac_proof pac_proof lpac_proof_as_printed; do
 done
 multiplier --published "$folder/published" 8 fine
 published eight 16 "$folder/published/constraints" "$folder/published/target" "$folder/published/proof"
-{ printf '1 ' && seq 257 | sed 's/.*/n&/' | paste -sd '*' && printf ';'; } > "$folder/names"
-published names 4 "$folder/names" "${two[1]}" "$folder/empty"
+# One name more than there are variables.
+words=$(sed -n 's/^pub const SET_WORDS: usize = \([0-9]*\);$/\1/p' crates/limits/src/lib.rt)
+{ printf '1 ' && seq $((64 * words + 1)) | sed 's/.*/n&/' | paste -sd '*' && printf ';'; } > "$folder/names"
+published "$((64 * words + 1))_names" 4 "$folder/names" "${two[1]}" "$folder/empty"
 published no_target 4 "${two[0]}" "$folder/empty" "$folder/binary"
 published binary 4 "${two[@]}" "$folder/binary"
 published long 4 "${two[@]}" "$folder/long"

@@ -27,10 +27,10 @@ pub const VERDICTS: [(&str, &str); 18] = [
     ("PRODUCTS", "a step has more than 1,024 products"),
     ("MISMATCH", "the stated polynomial of a linear combination is not the sum"),
     ("NOTBIT", "the polynomial of an extension is not its own square"),
-    ("FULL", "512 polynomials are stored already, or 1,600 terms are not enough"),
+    ("FULL", "512 polynomials are stored already, or 1,333 terms are not enough"),
     ("NOGOAL", "there is no goal line, or no target"),
     ("NOTREACHED", "everything stood and the goal was not reached"),
-    ("NAMES", "a published proof has a name of more than 31 bytes, or a 257th name"),
+    ("NAMES", "a published proof has a name of more than 31 bytes, or a 321st name"),
 ];
 
 mod proved {

@@ -5,16 +5,13 @@ mod polynomial;
 mod published;
 mod statement;
 
+use crate::width::{LEAST_POOL, LEAST_SCRATCH, POOL, SCRATCH, TERM_WORDS, VARIABLES};
 use polynomial::{add, add_product, holds, reduced, single, Poly};
 use statement::{statement, Decimal, Statement, Written};
 use std::collections::{HashMap, HashSet};
 use std::fmt;
 
 pub use published::{check_published, numbered_names};
-
-/// The room that the host call and the check program have, in words.
-pub const POOL: usize = 8_000;
-pub const SCRATCH: usize = 6_560;
 
 /// The longest text that is checked; the host call and the check program take less.
 pub const TEXT_BYTES: usize = 1_048_576;
@@ -94,7 +91,7 @@ impl State {
         State {
             phase: Phase::Opening,
             k: 0,
-            capacity: (pool / 5).min(65_536),
+            capacity: (pool / TERM_WORDS).min(65_536),
             store: HashMap::new(),
             seen: HashSet::new(),
             goal: Poly::new(),
@@ -110,7 +107,7 @@ impl State {
     /// Makes the variables of p seen.
     fn see(&mut self, p: &Poly) {
         for set in p.keys() {
-            self.seen.extend((0..256).filter(|&v| holds(set, v)));
+            self.seen.extend((0..VARIABLES as u64).filter(|&v| holds(set, v)));
         }
     }
 
@@ -252,7 +249,7 @@ impl State {
 /// SHORT and LONGTEXT, which leave everything else unread.
 fn room_and_length(bytes: usize, most: usize, pool: usize, scratch: usize) -> Option<Answer> {
     let refused = |verdict| Some(Answer { verdict, ..Answer::default() });
-    match (pool < 480 || scratch < 6560, bytes > most) {
+    match (pool < LEAST_POOL || scratch < LEAST_SCRATCH, bytes > most) {
         (true, _) => refused(SHORT),
         (false, true) => refused(LONGTEXT),
         (false, false) => None,

@@ -12,4 +12,5 @@ pub mod random;
 #[cfg(feature = "rooms")]
 pub mod rooms;
 pub mod texts;
+pub mod width;
 pub mod worst;

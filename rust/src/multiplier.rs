@@ -234,7 +234,8 @@ fn total(circuit: &Circuit, gates: &[(usize, usize)], lines: &mut Lines) -> usiz
 #[cfg(test)]
 mod tests {
     use super::*;
-    use crate::independent::{check_hosted, check_published, MISMATCH, POOL, SCRATCH};
+    use crate::independent::{check_hosted, check_published, MISMATCH};
+    use crate::width::{POOL, SCRATCH};
 
     #[test]
     fn every_size_ring_and_style_is_accepted() {

@@ -3,9 +3,11 @@
 use crate::random::Random;
 use std::collections::BTreeMap;
 
+pub type Variable = u16;
+
 /// Sets of variables, each ascending, with their coefficients: none is zero modulo 2^k.
 #[derive(Clone, Debug, Default, PartialEq, Eq)]
-pub struct Polynomial(BTreeMap<Vec<u8>, u64>);
+pub struct Polynomial(BTreeMap<Vec<Variable>, u64>);
 
 /// The bits of a coefficient that count at this k.
 fn cut(k: u32, c: u64) -> u64 {
@@ -13,12 +15,12 @@ fn cut(k: u32, c: u64) -> u64 {
 }
 
 impl Polynomial {
-    pub fn variable(v: u8) -> Polynomial {
+    pub fn variable(v: Variable) -> Polynomial {
         Polynomial::default().plus_term(64, 1, &[v])
     }
 
     /// Itself plus c times the product of some variables.
-    pub fn plus_term(mut self, k: u32, c: u64, variables: &[u8]) -> Polynomial {
+    pub fn plus_term(mut self, k: u32, c: u64, variables: &[Variable]) -> Polynomial {
         let mut set = variables.to_vec();
         set.sort_unstable();
         set.dedup();
@@ -51,12 +53,12 @@ impl Polynomial {
         self.0.len()
     }
 
-    pub fn variables(&self) -> impl Iterator<Item = u8> + '_ {
+    pub fn variables(&self) -> impl Iterator<Item = Variable> + '_ {
         self.0.keys().flatten().copied()
     }
 
     /// Whether v stands in it.
-    pub fn holds(&self, v: u8) -> bool {
+    pub fn holds(&self, v: Variable) -> bool {
         self.variables().any(|w| w == v)
     }
 
@@ -83,7 +85,7 @@ impl Polynomial {
 }
 
 /// A term whose magnitude is not zero and whose coefficient is c modulo 2^k.
-fn written_term(k: u32, c: u64, set: &[u8], random: &mut Random) -> String {
+fn written_term(k: u32, c: u64, set: &[Variable], random: &mut Random) -> String {
     let multiple = if k < 64 && random.once_in(6) { (random.word() >> 58) << k } else { 0 };
     let c = if c.wrapping_add(multiple) == 0 { c } else { c.wrapping_add(multiple) };
     let negated = cut(k, c.wrapping_neg());

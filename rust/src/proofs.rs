@@ -1,11 +1,24 @@
 //! True proofs at random: every lin line states the sum that it computes, every ext line defines a bit, and the goal is reached.
 
-use crate::polynomial::Polynomial;
+use crate::polynomial::{Polynomial, Variable};
 use crate::random::Random;
+use crate::width::{SET_WORDS, VARIABLES};
 use std::collections::HashSet;
 
-/// Variables at the ends of the four words of a set, and some between.
-pub const VARIABLES: [u8; 12] = [0, 1, 2, 3, 62, 63, 64, 127, 128, 191, 192, 255];
+/// Variables at both ends of each word of a set, and some between.
+pub const ENDS: [Variable; 2 * SET_WORDS + 4] = ends();
+
+const fn ends() -> [Variable; 2 * SET_WORDS + 4] {
+    let mut all = [0; 2 * SET_WORDS + 4];
+    let mut word = 0;
+    while word < SET_WORDS {
+        all[2 * word] = 64 * word as Variable;
+        all[2 * word + 1] = 64 * word as Variable + 63;
+        word += 1;
+    }
+    [all[2 * word], all[2 * word + 1], all[2 * word + 2], all[2 * word + 3]] = [1, 2, 3, 62];
+    all
+}
 
 /// A proof in the making.
 #[derive(Default)]
@@ -19,8 +32,8 @@ struct Proof {
     /// All that was ever stored.
     introduced: Vec<Polynomial>,
     /// The variables of ext lines.
-    defined: Vec<u8>,
-    seen: HashSet<u8>,
+    defined: Vec<Variable>,
+    seen: HashSet<Variable>,
     /// The next new index.
     next: u64,
 }
@@ -53,7 +66,7 @@ pub fn polynomial(k: u32, most: usize, random: &mut Random) -> Polynomial {
     let mut p = Polynomial::default();
     for _ in 0..random.between(0, most) {
         let c = *random.pick(&[1, 1, 2, 3, u64::MAX, 1 << (k - 1), 0x1234_5678_9ABC_DEF1]);
-        let set: Vec<u8> = (0..random.below(4)).map(|_| *random.pick(&VARIABLES)).collect();
+        let set: Vec<Variable> = (0..random.below(4)).map(|_| *random.pick(&ENDS)).collect();
         p = p.plus_term(k, c, &set);
     }
     p
@@ -104,7 +117,7 @@ impl Proof {
 
     fn ext(&mut self, random: &mut Random) {
         let p = self.bit(2, random);
-        let fresh = (0..50).map(|_| random.below(256) as u8).find(|v| !self.seen.contains(v) && !p.holds(*v));
+        let fresh = (0..50).map(|_| random.below(VARIABLES) as Variable).find(|v| !self.seen.contains(v) && !p.holds(*v));
         let Some(v) = fresh else { return };
         self.steps.push(format!("ext\t{}\t{v}\t{}", self.next, p.written(self.k, random)));
         self.defined.push(v);
@@ -115,7 +128,7 @@ impl Proof {
     fn bit(&self, depth: usize, random: &mut Random) -> Polynomial {
         let k = self.k;
         match random.below(if depth == 0 { 2 } else { 6 }) {
-            0 => Polynomial::variable(*random.pick(&VARIABLES)),
+            0 => Polynomial::variable(*random.pick(&ENDS)),
             1 if self.defined.is_empty() => Polynomial::default().plus_term(k, random.below(2) as u64, &[]),
             1 => Polynomial::variable(*random.pick(&self.defined)),
             2 => Polynomial::default().plus_term(k, 1, &[]).plus_times(k, u64::MAX, &self.bit(depth - 1, random)),

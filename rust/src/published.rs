@@ -2,6 +2,7 @@
 //! into such texts.
 
 use crate::random::Random;
+use crate::width::VARIABLES;
 
 /// The three texts, and k.
 #[derive(Clone, Debug, PartialEq, Eq)]
@@ -56,7 +57,7 @@ pub struct Publisher<'r> {
 
 /// The names that are their numbers.
 pub fn plain_names() -> Vec<String> {
-    (0..256).map(|v| format!("x{v}")).collect()
+    (0..VARIABLES).map(|v| format!("x{v}")).collect()
 }
 
 fn words(tokens: &[&str]) -> Vec<String> {

@@ -4,10 +4,11 @@
 mod limits;
 
 use crate::multiplier::{self, STYLES};
-use crate::proofs::{lines_with_ones, VARIABLES};
+use crate::proofs::{lines_with_ones, ENDS};
 use crate::published::{plain, plain_names, Draft, Published, Publisher, Statement};
 use crate::random::Random;
-use crate::texts::{damaged, wrong_step, NUMBERS};
+use crate::texts::{damaged, end_number, wrong_step};
+use crate::width::VARIABLES;
 
 /// The three texts with this number, for a checker that takes so many bytes of them together.
 pub fn published(number: u64, most_bytes: usize) -> Published {
@@ -31,13 +32,16 @@ fn true_proof(random: &mut Random) -> Draft {
 
 // ---- names
 
-/// Names that are almost x and a number, or almost the word of a deletion; no list of names below has them.
-const ODD_NAMES: [&str; 10] = ["d", "D", "ddd", "d1d", "x", "x256", "x00", "x01", "X00", "x1x"];
+/// A name that is almost x and the number of a variable, or almost the word of a deletion; no list of names below has it.
+fn odd_name(random: &mut Random) -> String {
+    let beyond = format!("x{VARIABLES}");
+    random.pick(&["d", "D", "ddd", "d1d", "x", &beyond, "x00", "x01", "X00", "x1x"]).to_string()
+}
 
 /// Two letters; each two neighbours differ in the case of one.
-fn letters(v: u8) -> String {
+fn letters(v: usize) -> String {
     let case = if v.is_multiple_of(2) { b'a' } else { b'A' };
-    String::from_utf8(vec![b'a' + v / 24, case + v / 2 % 12]).unwrap()
+    String::from_utf8(vec![b'a' + (v / 24) as u8, case + (v / 2 % 12) as u8]).unwrap()
 }
 
 /// Different names for all variables: numbers, or numbers behind letters, up to 31 bytes, or letters alone. One may be odd.
@@ -45,15 +49,15 @@ fn names(random: &mut Random) -> Vec<String> {
     let letter = |random: &mut Random| *random.pick(b"abdlsxyzABDLSXYZ") as char;
     let mut names: Vec<String> = match random.below(8) {
         0..=3 => plain_names(),
-        4 => (0..=255).map(letters).collect(),
+        4 => (0..VARIABLES).map(letters).collect(),
         kind => {
             let letters = if kind == 5 { 28 } else { random.between(1, 9) };
             let prefix: String = (0..letters).map(|_| letter(random)).collect();
-            (0..256).map(|v| format!("{prefix}{v}")).collect()
+            (0..VARIABLES).map(|v| format!("{prefix}{v}")).collect()
         }
     };
     if random.once_in(3) {
-        names[*random.pick(&VARIABLES) as usize] = random.pick(&ODD_NAMES).to_string();
+        names[*random.pick(&ENDS) as usize] = odd_name(random);
     }
     names
 }
@@ -175,11 +179,11 @@ fn change_tokens(statement: &mut Statement, random: &mut Random) {
 fn change_word(token: &mut String, random: &mut Random) {
     *token = match token.as_bytes()[0] {
         b'0'..=b'9' if random.once_in(2) => random.between(0, 9).to_string(),
-        b'0'..=b'9' => random.pick(&NUMBERS).to_string(),
+        b'0'..=b'9' => end_number(random),
         b'+' => "-".to_string(),
         b'-' => "+".to_string(),
         b'a'..=b'z' | b'A'..=b'Z' if random.once_in(2) => "n".repeat(random.between(30, 33)),
-        b'a'..=b'z' | b'A'..=b'Z' => random.pick(&ODD_NAMES).to_string(),
+        b'a'..=b'z' | b'A'..=b'Z' => odd_name(random),
         _ => ",".to_string(),
     };
 }
@@ -232,9 +236,10 @@ fn multiplier(random: &mut Random) -> Published {
 #[cfg(test)]
 mod tests {
     use super::*;
-    use crate::independent::{check, check_published, Answer, FORM, LONGLINE, NUMBER, POOL, SCRATCH, TEXT_BYTES};
+    use crate::independent::{check, check_published, Answer, FORM, LONGLINE, NUMBER, TEXT_BYTES};
     use crate::published::of_lines;
     use crate::texts::{many_terms, wide_ext, wide_lin};
+    use crate::width::{POOL, SCRATCH};
 
     /// Lines of the known shapes, some of which are refused.
     fn some_lines(random: &mut Random) -> Vec<String> {

@@ -2,9 +2,6 @@
 
 use crate::independent::Answer;
 
-/// The words of a term: four for its set of variables, the lowest first, and its coefficient.
-pub const TERM_WORDS: usize = 5;
-
 mod proved {
     extern "C" {
         pub fn lpac_answer(

@@ -2,9 +2,10 @@
 //! The text with a given number is the same in every run.
 
 use crate::multiplier::{self, STYLES};
-use crate::polynomial::Polynomial;
-use crate::proofs::{self, polynomial, VARIABLES};
+use crate::polynomial::{Polynomial, Variable};
+use crate::proofs::{self, polynomial, ENDS};
 use crate::random::Random;
+use crate::width::{POOL_TERMS, VARIABLES};
 
 /// The text with this number.
 pub fn text(number: u64) -> Vec<u8> {
@@ -24,8 +25,8 @@ fn joined(lines: &[String]) -> Vec<u8> {
 
 // ---- near misses: one line is changed, lost, doubled, moved or added
 
-/// Numbers at the ends of the ranges, and just outside.
-pub(crate) const NUMBERS: [&str; 14] = [
+/// Numbers at the ends of the ranges, and just outside; those of the variables are not among them.
+const NUMBERS: [&str; 12] = [
     "0",
     "1",
     "2",
@@ -33,14 +34,21 @@ pub(crate) const NUMBERS: [&str; 14] = [
     "7",
     "64",
     "65",
-    "255",
-    "256",
     "4294967295",
     "4294967296",
     "18446744073709551615",
     "18446744073709551616",
     "340282366920938463463374607431768211456",
 ];
+
+/// A number at an end of a range, or just outside.
+pub(crate) fn end_number(random: &mut Random) -> String {
+    match random.below(NUMBERS.len() + 2) {
+        0 => (VARIABLES - 1).to_string(),
+        1 => VARIABLES.to_string(),
+        other => NUMBERS[other - 2].to_string(),
+    }
+}
 
 fn near_miss(mut lines: Vec<String>, random: &mut Random) -> Vec<u8> {
     let (at, other) = (random.below(lines.len()), random.below(lines.len()));
@@ -66,7 +74,7 @@ fn with_other_number(text: &str, random: &mut Random) -> String {
     }
     let start = *random.pick(&starts);
     let end = (start..bytes.len()).find(|&i| !bytes[i].is_ascii_digit()).unwrap_or(bytes.len());
-    format!("{}{}{}", &text[..start], random.pick(&NUMBERS), &text[end..])
+    format!("{}{}{}", &text[..start], end_number(random), &text[end..])
 }
 
 /// A field with terms added or another polynomial in its place.
@@ -75,8 +83,8 @@ fn with_other_terms(line: &str, random: &mut Random) -> String {
     let at = random.below(fields.len());
     match random.below(4) {
         0 => fields[at] += " 1",
-        1 => fields[at] += &format!(" -1.{}", random.pick(&VARIABLES)),
-        2 => fields[at] += &format!(".{}", random.pick(&VARIABLES)),
+        1 => fields[at] += &format!(" -1.{}", random.pick(&ENDS)),
+        2 => fields[at] += &format!(".{}", random.pick(&ENDS)),
         _ => fields[at] = polynomial(64, 4, random).written(64, random),
     }
     fields.join("\t")
@@ -86,7 +94,7 @@ fn with_other_terms(line: &str, random: &mut Random) -> String {
 pub(crate) fn wrong_step(lines: &[String], random: &mut Random) -> String {
     let known = random.pick(lines).split('\t').nth(1).unwrap_or("1").to_string();
     let index = if random.once_in(2) { known } else { random.between(1, 20).to_string() };
-    let v = if random.once_in(2) { *random.pick(&VARIABLES) as usize } else { random.below(256) };
+    let v = if random.once_in(2) { *random.pick(&ENDS) as usize } else { random.below(VARIABLES) };
     let p = polynomial(64, 3, random).written(64, random);
     match random.below(4) {
         0 => format!("del\t{index}"),
@@ -164,7 +172,7 @@ pub(crate) fn many_terms(random: &mut Random) -> Vec<u8> {
 
 /// The first n subsets of six variables: products of such are few.
 fn subsets(n: usize) -> Polynomial {
-    let set = |bits: usize| -> Vec<u8> { (0..6).filter(|v| bits >> v & 1 == 1).collect() };
+    let set = |bits: usize| -> Vec<Variable> { (0..6).filter(|v| bits >> v & 1 == 1).collect() };
     (0..n).fold(Polynomial::default(), |p, bits| p.plus_term(64, 1, &set(bits)))
 }
 
@@ -204,12 +212,13 @@ pub(crate) fn many_polynomials(random: &mut Random) -> Vec<u8> {
     text.into_bytes()
 }
 
-/// 1,536 terms of inputs and 62 to 66 more, then one that needs no room.
+/// Inputs with as many terms as the host's pool holds, or up to two more or less, then one that needs no room.
 pub(crate) fn stored_terms(random: &mut Random) -> Vec<u8> {
     let wide: Vec<String> = (0..96).map(|v| format!("1.{v}")).collect();
-    let inputs: String = (1..=16).map(|i| format!("in\t{i}\t{}\n", wide.join(" "))).collect();
-    let last = &wide[..random.between(62, 66)];
-    format!("ring\t64\n{inputs}in\t17\t{}\ngoal\t0\nlin\t18\t0\t1\t0\n", last.join(" ")).into_bytes()
+    let (full, rest) = (POOL_TERMS / 96, POOL_TERMS % 96);
+    let inputs: String = (1..=full).map(|i| format!("in\t{i}\t{}\n", wide.join(" "))).collect();
+    let last = &wide[..random.between(rest - 2, rest + 2)];
+    format!("ring\t64\n{inputs}in\t50\t{}\ngoal\t0\nlin\t51\t0\t1\t0\n", last.join(" ")).into_bytes()
 }
 
 /// An accepted text of so many bytes, some of which are too many.
@@ -226,7 +235,7 @@ fn long_text(random: &mut Random) -> Vec<u8> {
 
 /// A number at an end of its range, or just outside, in each of its places.
 fn number_at_its_end(random: &mut Random) -> Vec<u8> {
-    let n = random.pick(&NUMBERS);
+    let n = end_number(random);
     match random.below(6) {
         0 => format!("ring\t{n}\ngoal\t1\n"),
         1 => format!("ring\t8\nin\t{n}\t1\ngoal\t1\n"),

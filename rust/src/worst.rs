@@ -3,6 +3,7 @@
 use crate::host::TEXT_BYTES;
 use crate::multiplier::{self, Style};
 use crate::random::Random;
+use crate::width::VARIABLES;
 
 /// The longest text that the checker takes.
 const MOST_BYTES: usize = 1_048_576;
@@ -30,7 +31,7 @@ fn joined<T: ToString>(items: impl Iterator<Item = T>, between: &str) -> String 
 
 /// Terms of two variables each.
 fn terms(random: &mut Random, n: usize) -> Vec<String> {
-    (0..n).map(|_| format!("{}.{}.{}", random.between(1, 9), random.below(256), random.below(256))).collect()
+    (0..n).map(|_| format!("{}.{}.{}", random.between(1, 9), random.below(VARIABLES), random.below(VARIABLES))).collect()
 }
 
 /// Every lin line makes so many products, a multiple of 64, which cancel.
@@ -46,7 +47,7 @@ fn products(each: usize) -> Vec<u8> {
 
 /// 512 stored polynomials, and a del of the first on every second line.
 fn deletions() -> Vec<u8> {
-    let inputs = joined((1..512).map(|i| format!("in\t{i}\t1.{}\n", i % 256)), "");
+    let inputs = joined((1..512).map(|i| format!("in\t{i}\t1.{}\n", i % VARIABLES)), "");
     grown(format!("ring\t8\n{inputs}goal\t7\n"), TEXT_BYTES, |turn| {
         let (new, first) = (512 + turn, 1 + turn);
         Some(format!("lin\t{new}\t0\t{}\t0\ndel\t{first}\n", new - 1))
@@ -59,7 +60,7 @@ fn fields() -> Vec<u8> {
     grown("ring\t64\n".to_string(), TEXT_BYTES, |turn| {
         let mut line = format!("in\t{}\t", turn + 1);
         for n in 0..96 {
-            let variables = joined((0..16).map(|_| random.below(256)), ".");
+            let variables = joined((0..16).map(|_| random.below(VARIABLES)), ".");
             let term = format!("{}{}.{variables}", if n == 0 { "" } else { " " }, random.word() | 1);
             if line.len() + term.len() > 8_192 {
                 break;
@@ -79,7 +80,7 @@ fn decimals() -> Vec<u8> {
 /// Lin lines of 400 pairs with stored polynomials in any order.
 fn pairs() -> Vec<u8> {
     let mut random = Random::new(3);
-    let inputs = joined((1..=500).map(|i| format!("in\t{i}\t1.{}\n", i % 256)), "");
+    let inputs = joined((1..=500).map(|i| format!("in\t{i}\t1.{}\n", i % VARIABLES)), "");
     grown(format!("ring\t8\n{inputs}goal\t7\n"), TEXT_BYTES, |turn| {
         let pairs = joined((0..400).map(|_| format!("\t{}\t0", random.between(1, 500))), "");
         (turn < 12).then(|| format!("lin\t{}\t0{pairs}\n", 1_000 + turn))

@@ -1,8 +1,9 @@
 //! Texts with known answers: the paper's samples, every verdict, and every limit on both sides. Each is checked by the proved code
 //! in rooms filled with a mark; its six numbers must be the independent checker's, and the rooms left as the paper says.
 
-use lofashunge::independent::{check, LONGTEXT, POOL, SCRATCH, SHORT};
+use lofashunge::independent::{check, LONGTEXT, SHORT};
 use lofashunge::rooms;
+use lofashunge::width::{LEAST_POOL, LEAST_SCRATCH, POOL, SCRATCH, TERM_WORDS, VARIABLES};
 use std::collections::HashSet;
 
 /// A text, with the words of pool and scratch lent to it.
@@ -75,10 +76,10 @@ fn after(lines: &str) -> Case {
 /// Rooms, texts and lines that are too short or too long: SHORT, LONGTEXT, LONGLINE.
 fn lengths() -> Vec<Case> {
     vec![
-        in_room(479, SCRATCH, SAMPLE),
-        in_room(480, SCRATCH - 1, SAMPLE),
+        in_room(LEAST_POOL - 1, LEAST_SCRATCH, SAMPLE),
+        in_room(LEAST_POOL, LEAST_SCRATCH - 1, SAMPLE),
         in_room(0, 0, ""),
-        in_room(480, SCRATCH, SAMPLE),
+        in_room(LEAST_POOL, LEAST_SCRATCH, SAMPLE),
         pieces(&[(1, "ring\t8\n"), (1_048_569, "x")]),
         pieces(&[(1, "ring\t8\n"), (1_048_570, "x")]),
         pieces(&[(1_048_577, "\n")]),
@@ -120,9 +121,9 @@ fn limits() -> Vec<Case> {
         after("del\t0\n"),
         after("del\t4294967295\n"),
         after("del\t4294967296\n"),
-        after("ext\t3\t255\t1.254\n"),
-        after("ext\t3\t256\t1\n"),
-        after("lin\t3\t1.256\t1\t1\n"),
+        after(&format!("ext\t3\t{}\t1.{}\n", VARIABLES - 1, VARIABLES - 2)),
+        after(&format!("ext\t3\t{VARIABLES}\t1\n")),
+        after(&format!("lin\t3\t1.{VARIABLES}\t1\t1\n")),
         after("lin\t3\t18446744073709551615\t1\t18446744073709551615\n"),
         after("lin\t3\t18446744073709551616\t1\t1\n"),
         after("lin\t3\t0 1\t1\t1\n"),
@@ -198,14 +199,14 @@ fn capacities() -> Vec<Case> {
     let full = |pool: usize, lines: &str| in_room(pool, SCRATCH, &format!("ring\t8\n{lines}"));
     let wide = |i: usize| format!("in\t{i}\t{}\n", terms(96));
     vec![
-        full(480, &wide(1)),
-        full(480, &format!("{}in\t2\t1\n", wide(1))),
-        full(484, &format!("{}in\t2\t1\n", wide(1))),
-        full(485, &format!("{}in\t2\t1\n", wide(1))),
-        full(485, &format!("{}in\t2\t1\nin\t3\t0\n", wide(1))),
-        full(480, &format!("{}goal\t1\nlin\t2\t1\t1\t0\n", wide(1))),
-        full(480, &format!("{}goal\t0\nlin\t2\t0\t1\t0\ndel\t1\next\t1\t200\t{}\n", wide(1), "1.0")),
-        full(480, &format!("{}goal\t0\nlin\t2\t0\t1\t0\next\t3\t200\t1\n", wide(1))),
+        full(LEAST_POOL, &wide(1)),
+        full(LEAST_POOL, &format!("{}in\t2\t1\n", wide(1))),
+        full(LEAST_POOL + TERM_WORDS - 1, &format!("{}in\t2\t1\n", wide(1))),
+        full(LEAST_POOL + TERM_WORDS, &format!("{}in\t2\t1\n", wide(1))),
+        full(LEAST_POOL + TERM_WORDS, &format!("{}in\t2\t1\nin\t3\t0\n", wide(1))),
+        full(LEAST_POOL, &format!("{}goal\t1\nlin\t2\t1\t1\t0\n", wide(1))),
+        full(LEAST_POOL, &format!("{}goal\t0\nlin\t2\t0\t1\t0\ndel\t1\next\t1\t200\t{}\n", wide(1), "1.0")),
+        full(LEAST_POOL, &format!("{}goal\t0\nlin\t2\t0\t1\t0\next\t3\t200\t1\n", wide(1))),
         full(POOL, &format!("{}goal\t0\ndel\t1\nlin\t1\t1\t2\t1\ndel\t512\nlin\t600\t1\t3\t1\nlin\t601\t1\t3\t1\n", inputs(512, "1"))),
         in_room(POOL, SCRATCH + 1, SAMPLE),
         in_room(POOL + 3, SCRATCH + 100, SAMPLE),

@@ -4,6 +4,7 @@
 mod common;
 
 use common::{accepted_text, at_root, fails, program, run, SAMPLE};
+use lofashunge::width::VARIABLES;
 use std::fs::{read, File, OpenOptions};
 use std::io::{ErrorKind, Read, Write};
 use std::net::{TcpListener, TcpStream};
@@ -30,6 +31,13 @@ fn a_program_prints_what_stands_beside_its_input() {
         let data = |what: &str| read(at_root(&format!("rust/tests/data/{name}.{what}"))).unwrap();
         answers(&mut program(name), &data("stdin"), &data("stdout"));
     }
+}
+
+#[test]
+fn the_spelling_program_knows_as_many_variables_as_there_are() {
+    let last = VARIABLES - 1;
+    let asked = format!("8\t1.{last}.0.64.128.{last}\n8\t1.{VARIABLES}\n");
+    answers(&mut program("lpac_spell"), asked.as_bytes(), format!("0\t1.0.64.128.{last}\n5\t\n").as_bytes());
 }
 
 #[test]

@@ -123,7 +123,7 @@ fn a_long_statement_is_shown_up_to_a_readable_width() {
     let why = "refused, LONGLINE (3): more than 8,192 bytes in a line or statement";
     of_texts("long", ["1 x;", "x;", &long], &format!("P:2:2: {why}: {shown} ..."));
     let name = "n".repeat(32);
-    let why = "refused, NAMES (17): a published proof has a name of more than 31 bytes, or a 257th name";
+    let why = "refused, NAMES (17): a published proof has a name of more than 31 bytes, or a 321st name";
     of_texts("long", [&format!("1 {name};"), "x;", ""], &format!("C:1:1: {why}: 1 {name};"));
 }
 

@@ -5,9 +5,10 @@ mod common;
 use common::counting::{count, each_comes_up, print};
 use common::{program, PublishedFiles};
 use lofashunge::host::{self, TEXT_BYTES};
-use lofashunge::independent::{self, check_published, numbered_names, Answer, LONGTEXT, ORDER, POOL, SCRATCH, SHORT};
+use lofashunge::independent::{self, check_published, numbered_names, Answer, LONGTEXT, ORDER, SHORT};
 use lofashunge::published::Published;
 use lofashunge::published_texts::published;
+use lofashunge::width::{POOL, SCRATCH};
 use std::collections::HashMap;
 
 const PROOFS: u64 = 120_000;

@@ -3,7 +3,7 @@ use Prim.Native.Nat.{ℕ, _+_, _*_}
 
 -- ---- the width: a set of variables in 64-bit words, and a term, which is its set and then its coefficient
 abbrev pub setWords : ℕ
-setWords = 4
+setWords = 5
 
 abbrev pub termWords : ℕ
 termWords = setWords + 1

@@ -1,7 +1,7 @@
 // The paper's numbers as the code has them; specs/Limits.antt and specs/Verdicts.antt define them.
 
 // ---- the width: a set of variables in 64-bit words, and a term, which is its set and then its coefficient
-pub const SET_WORDS: usize = 4;
+pub const SET_WORDS: usize = 5;
 
 pub const TERM_WORDS: usize = SET_WORDS + 1;
 

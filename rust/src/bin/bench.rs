@@ -6,8 +6,9 @@
 //! host calls, and `bench reduce N ORDER` reduces a run of N terms.
 
 use lofashunge::host::{self, Verdict};
-use lofashunge::independent::{self, Answer, POOL, SCRATCH};
-use lofashunge::rooms::{self, TERM_WORDS};
+use lofashunge::independent::{self, Answer};
+use lofashunge::rooms;
+use lofashunge::width::{POOL, SCRATCH, TERM_WORDS};
 use lofashunge::worst::{self, Measured};
 use std::hint::black_box;
 use std::io::{Read, Write};

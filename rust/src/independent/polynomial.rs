@@ -1,10 +1,11 @@
 //! Reduced polynomials modulo 2^k.
 
 use super::statement::Written;
+use crate::width::SET_WORDS;
 use std::collections::BTreeMap;
 
 /// A set of variables, the highest first, so that comparing two lists of words compares two numbers.
-pub(super) type Set = [u64; 4];
+pub(super) type Set = [u64; SET_WORDS];
 
 /// A reduced polynomial: no coefficient is zero modulo 2^k.
 pub(super) type Poly = BTreeMap<Set, u64>;
@@ -25,21 +26,26 @@ pub(super) fn add(p: &mut Poly, set: Set, c: u64, k: u32) {
     }
 }
 
+/// The word that v is in.
+fn word_of(v: u64) -> usize {
+    SET_WORDS - 1 - (v / 64) as usize
+}
+
 pub(super) fn single(v: u64) -> Set {
-    let mut set = [0; 4];
-    set[3 - (v / 64) as usize] = 1 << (v % 64);
+    let mut set = [0; SET_WORDS];
+    set[word_of(v)] = 1 << (v % 64);
     set
 }
 
 /// Whether v is in the set.
 pub(super) fn holds(set: &Set, v: u64) -> bool {
-    set[3 - (v / 64) as usize] >> (v % 64) & 1 == 1
+    set[word_of(v)] >> (v % 64) & 1 == 1
 }
 
 pub(super) fn reduced(written: &Written, k: u32) -> Poly {
     let mut p = Poly::new();
     for t in written {
-        let set = t.variables.iter().fold([0; 4], |s, v| union(&s, &single(v.unwrap())));
+        let set = t.variables.iter().fold([0; SET_WORDS], |s, v| union(&s, &single(v.unwrap())));
         let m = t.magnitude.unwrap();
         add(&mut p, set, if t.negative { m.wrapping_neg() } else { m }, k);
     }

@@ -4,6 +4,7 @@ use super::grammar::{is_white, published_statement, Part};
 use super::statement::Statement;
 use super::{room_and_length, written_within_limits, Answer, Phase, State, FORM, LONGLINE, NAMES, NUMBER};
 use crate::published::Published;
+use crate::width::VARIABLES;
 use std::collections::{HashMap, HashSet};
 
 // ---- statements: a text is cut behind each `;`
@@ -51,11 +52,11 @@ fn read<'t>(item: &Item<'t>, number: &mut dyn FnMut(&'t [u8]) -> u64) -> Result<
 
 // ---- names
 
-/// x and a decimal from 0 to 255 without leading zero.
+/// x and the number of a variable without leading zero.
 fn plain_number(name: &[u8]) -> Option<u64> {
     let digits = std::str::from_utf8(name.strip_prefix(b"x")?).unwrap();
-    let number: u8 = digits.parse().ok()?;
-    (number.to_string() == digits).then_some(number as u64)
+    let number: u64 = digits.parse().ok()?;
+    (number < VARIABLES as u64 && number.to_string() == digits).then_some(number)
 }
 
 /// The names of the statements that can be read, up to the first that can't, as they first appear.
@@ -83,7 +84,7 @@ fn numbers<'t>(items: &[Item<'t>]) -> HashMap<&'t [u8], u64> {
     names.into_iter().zip(numbers).collect()
 }
 
-/// Each name of the three texts with its number, the lowest number first. A 257th name has one too, though it is refused.
+/// Each name of the three texts with its number, the lowest number first. One name too many has one too, though it is refused.
 pub fn numbered_names(published: &Published) -> Vec<(String, u64)> {
     let mut named: Vec<(String, u64)> =
         numbers(&all_items(published)).into_iter().map(|(name, number)| (String::from_utf8_lossy(name).into_owned(), number)).collect();
@@ -100,8 +101,8 @@ fn read_named<'t>(item: &Item<'t>, numbers: &HashMap<&'t [u8], u64>) -> Result<(
     let statement = read(item, &mut |name| {
         // A name of the statement that can't be read may have no number, and needs none.
         let number = numbers.get(name).copied().unwrap_or(0);
-        named_well &= name.len() <= 31 && number < 256;
-        number.min(255)
+        named_well &= name.len() <= 31 && number < VARIABLES as u64;
+        number.min(VARIABLES as u64 - 1)
     });
     Ok((statement?, named_well))
 }

@@ -1,5 +1,7 @@
 //! Statements as written, how they are read, and which of their numbers are in range.
 
+use crate::width::VARIABLES;
+
 /// A decimal as written: `None` where it does not fit 64 bits, which no range allows.
 pub type Decimal = Option<u64>;
 
@@ -73,8 +75,12 @@ fn is_index(d: Decimal) -> bool {
     within(1, u32::MAX as u64, d)
 }
 
+fn is_variable(d: Decimal) -> bool {
+    within(0, VARIABLES as u64 - 1, d)
+}
+
 fn in_range(p: &Written) -> bool {
-    p.iter().all(|t| within(1, u64::MAX, t.magnitude) && t.variables.iter().all(|&v| within(0, 255, v)))
+    p.iter().all(|t| within(1, u64::MAX, t.magnitude) && t.variables.iter().all(|&v| is_variable(v)))
 }
 
 impl Statement {
@@ -93,7 +99,7 @@ impl Statement {
             Statement::In(i, _) | Statement::Del(i) => is_index(*i),
             Statement::Goal(_) => true,
             Statement::Lin(i, _, pairs) => is_index(*i) && pairs.iter().all(|q| is_index(q.0)),
-            Statement::Ext(i, v, _) => is_index(*i) && within(0, 255, *v),
+            Statement::Ext(i, v, _) => is_index(*i) && is_variable(*v),
         };
         own && self.fields().into_iter().all(in_range)
     }

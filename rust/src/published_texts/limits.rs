@@ -3,7 +3,8 @@
 use super::{laid_out, names, white};
 use crate::published::{plain, plain_names, Published, Publisher};
 use crate::random::Random;
-use crate::texts::{many_polynomials, many_terms, stored_terms, wide_ext, wide_lin, NUMBERS};
+use crate::texts::{end_number, many_polynomials, many_terms, stored_terms, wide_ext, wide_lin};
+use crate::width::VARIABLES;
 
 pub(super) fn limit(most_bytes: usize, random: &mut Random) -> Published {
     match random.below(28) {
@@ -85,12 +86,12 @@ fn long_name(random: &mut Random) -> Published {
     published(8, constraints, target, proof)
 }
 
-/// 254 to 258 names: most in one constraint, the others one after the other in each place where a name can stand.
+/// Up to two names more or less than there are variables: most in one constraint, the others one after the other in each place where a name can stand.
 fn many_names(random: &mut Random) -> Published {
     let prefix = *random.pick(&["x", "x", "y", "d"]);
     let name = |n: usize| format!("{prefix}{n}");
-    let last = random.between(254, 258);
-    let first = random.between(240, last);
+    let last = random.between(VARIABLES - 2, VARIABLES + 2);
+    let first = random.between(VARIABLES - 16, last);
     let before_target = random.between(first, last);
     let before_proof = random.between(before_target, last);
     let product: Vec<String> = (0..first).map(name).collect();
@@ -109,7 +110,7 @@ fn named_step(n: usize, prefix: &str, random: &mut Random) -> String {
         1 => format!("{n} * 2, {new}, {prefix}1*{new};\n"),
         2 => format!("{n} % 2*(0), 8*{new}-8*{new};\n"),
         3 => format!("{n} + 2, 2, 2*{prefix}1+256*{new};\n"),
-        4 => format!("{n} = {prefix}{}, {new};\n", n + 300),
+        4 => format!("{n} = {prefix}{}, {new};\n", n + VARIABLES),
         _ => format!("{n} = {new}, {prefix}2;\n"),
     }
 }
@@ -133,7 +134,7 @@ fn long_texts(most_bytes: usize, random: &mut Random) -> Published {
 
 /// A number at an end of its range, or just outside, in each of its places.
 fn number_at_its_end(random: &mut Random) -> Published {
-    let n = format!("{}{}", random.pick(&["", "", "0", "00000000000000000000"]), random.pick(&NUMBERS));
+    let n = format!("{}{}", random.pick(&["", "", "0", "00000000000000000000"]), end_number(random));
     let after = |proof: String| published(64, "1 x;".to_string(), "x;".to_string(), proof);
     match random.below(12) {
         0 => published(n.parse().unwrap_or(u64::MAX), "1 x;".to_string(), "x;".to_string(), String::new()),

@@ -7,8 +7,9 @@ mod reading;
 mod whole;
 
 use lofashunge::host;
-use lofashunge::independent::{check_published, POOL, SCRATCH, TEXT_BYTES};
+use lofashunge::independent::{check_published, TEXT_BYTES};
 use lofashunge::published::Published;
+use lofashunge::width::{POOL, SCRATCH};
 
 fn published(k: u64, constraints: &str, target: &str, proof: &str) -> Published {
     Published { k, constraints: constraints.into(), target: target.into(), proof: proof.into() }

@@ -3,6 +3,7 @@
 use super::{answer, gives, published};
 use lofashunge::independent::numbered_names;
 use lofashunge::published::Published;
+use lofashunge::width::VARIABLES;
 
 #[test]
 fn names_that_are_all_x_and_a_number_have_that_number() {
@@ -10,8 +11,10 @@ fn names_that_are_all_x_and_a_number_have_that_number() {
         let names = numbered_names(&published(8, constraints, target, proof));
         names.iter().map(|(name, number)| format!("{name}:{number}")).collect::<Vec<_>>().join(" ")
     };
-    assert_eq!(named("1 x7*x0;", "x255;", "2 = x10, x7; 1 d;"), "x0:0 x7:7 x10:10 x255:255");
-    for other in ["x256", "x00", "x07", "x", "X7", "y", "x7x", "d", "x99999999999999999999"] {
+    let last = VARIABLES - 1;
+    assert_eq!(named("1 x7*x0;", &format!("x{last};"), "2 = x10, x7; 1 d;"), format!("x0:0 x7:7 x10:10 x{last}:{last}"));
+    let beyond = format!("x{VARIABLES}");
+    for other in [&beyond, "x00", "x07", "x", "X7", "y", "x7x", "d", "x99999999999999999999"] {
         assert_eq!(named("1 x7;", &format!("{other};"), "2 = x1, x7;"), format!("x7:0 {other}:1 x1:2"));
     }
     assert_eq!(named("1 b*a; 2 c;", "a;", "3 % 1*(e) + 2*(f+b), g; 4 = i, h; 5 * 1, k, j;"), "b:0 a:1 c:2 e:3 f:4 g:5 i:6 h:7 k:8 j:9");
@@ -53,12 +56,12 @@ fn product(prefix: &str, names: usize) -> String {
 }
 
 #[test]
-fn a_257th_name() {
+fn a_name_more_than_there_are_variables() {
     for prefix in ["x", "y"] {
-        let all = format!("7 {};", product(prefix, 256));
-        gives(&all, &format!("{prefix}255;"), "7 d;", "16 3 0 0 0 0");
-        gives(&format!("{all} 8 {prefix}256;"), "1;", "", "17 2 8 0 1 1");
-        gives(&format!("{all} 7 {prefix}256;"), "1;", "", "17 2 7 0 1 1");
+        let all = format!("7 {};", product(prefix, VARIABLES));
+        gives(&all, &format!("{prefix}{};", VARIABLES - 1), "7 d;", "16 3 0 0 0 0");
+        gives(&format!("{all} 8 {prefix}{VARIABLES};"), "1;", "", "17 2 8 0 1 1");
+        gives(&format!("{all} 7 {prefix}{VARIABLES};"), "1;", "", "17 2 7 0 1 1");
         gives(&all, "z;", "", "17 2 0 0 1 1");
         for step in ["8 % 7*(z), 0;", "8 % 9, z;", "8 * 7, z, 1;", "8 + 9, 9, z;", "8 = z, 1;"] {
             gives(&all, "1;", step, "17 3 8 0 1 1");
@@ -66,7 +69,7 @@ fn a_257th_name() {
         gives(&all, "1;", &format!("8 = {prefix}0, z;"), "17 3 8 0 1 1");
         gives(&all, "1;", "7 d; 8 = z, 1;", "17 4 8 0 0 0");
     }
-    gives(&format!("7 {};", product("y", 257)), "1;", "", "17 1 7 0 0 0");
-    gives(&format!("7 {};", product("x", 257)), "1;", "", "17 1 7 0 0 0");
-    gives(&format!("7 {};", product("x", 255)), "1;", "8 = y, x0; 9 = z, x0;", "17 4 9 1 2 3");
+    gives(&format!("7 {};", product("y", VARIABLES + 1)), "1;", "", "17 1 7 0 0 0");
+    gives(&format!("7 {};", product("x", VARIABLES + 1)), "1;", "", "17 1 7 0 0 0");
+    gives(&format!("7 {};", product("x", VARIABLES - 1)), "1;", "8 = y, x0; 9 = z, x0;", "17 4 9 1 2 3");
 }

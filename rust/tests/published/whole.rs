@@ -1,8 +1,9 @@
 //! Lengths, the order of refusals over the three texts, and the steps.
 
 use super::{answer, gives, proof_gives, published, CONSTRAINTS, PROVED};
-use lofashunge::independent::{check_published, SCRATCH, TEXT_BYTES};
+use lofashunge::independent::{check_published, TEXT_BYTES};
 use lofashunge::published::Published;
+use lofashunge::width::{LEAST_POOL, LEAST_SCRATCH};
 
 // ---- lengths
 
@@ -34,15 +35,16 @@ fn a_statement_above_8_192_bytes() {
 #[test]
 fn room_then_length_then_k_then_statements() {
     let bad = |k: u64, bytes: usize| published(k, "?", &" ".repeat(5), &" ".repeat(bytes - 6));
-    let numbers = |p: &Published, most, pool, scratch| check_published(p, most, pool, scratch).to_string().replace('\t', " ");
-    for (pool, scratch) in [(479, SCRATCH), (480, SCRATCH - 1), (0, 0)] {
-        assert_eq!(numbers(&bad(0, 101), 100, pool, scratch), "1 0 0 0 0 0");
+    let in_room = |p: &Published, most, pool, scratch| check_published(p, most, pool, scratch).to_string().replace('\t', " ");
+    let numbers = |p: &Published, most| in_room(p, most, LEAST_POOL, LEAST_SCRATCH);
+    for (pool, scratch) in [(LEAST_POOL - 1, LEAST_SCRATCH), (LEAST_POOL, LEAST_SCRATCH - 1), (0, 0)] {
+        assert_eq!(in_room(&bad(0, 101), 100, pool, scratch), "1 0 0 0 0 0");
     }
     for most in [100, 65_536, TEXT_BYTES] {
-        assert_eq!(numbers(&bad(0, most + 1), most, 480, SCRATCH), "2 0 0 0 0 0");
-        assert_eq!(numbers(&bad(0, most), most, 480, SCRATCH), "5 0 0 0 0 0");
-        assert_eq!(numbers(&bad(65, most), most, 480, SCRATCH), "5 0 0 0 0 0");
-        assert_eq!(numbers(&bad(64, most), most, 480, SCRATCH), "4 1 0 0 0 0");
+        assert_eq!(numbers(&bad(0, most + 1), most), "2 0 0 0 0 0");
+        assert_eq!(numbers(&bad(0, most), most), "5 0 0 0 0 0");
+        assert_eq!(numbers(&bad(65, most), most), "5 0 0 0 0 0");
+        assert_eq!(numbers(&bad(64, most), most), "4 1 0 0 0 0");
     }
     for k in [0, 65, 1 << 32, (1 << 32) + 8, u64::MAX] {
         assert_eq!(answer(&published(k, "1 x;", "", "")), "5 0 0 0 0 0");

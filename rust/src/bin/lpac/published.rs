@@ -118,8 +118,9 @@ pub fn report(ring: &OsStr, files: &[OsString; 3]) -> Report {
 mod tests {
     use super::places;
     use lofashunge::host::TEXT_BYTES;
-    use lofashunge::independent::{check_published, NOTREACHED, POOL, SCRATCH};
+    use lofashunge::independent::{check_published, NOTREACHED};
     use lofashunge::published_texts::published;
+    use lofashunge::width::{POOL, SCRATCH};
 
     /// Where all statements stood, the independent checker's line is their count.
     #[test]
