@@ -8,7 +8,7 @@ trap 'rm -rf "$folder"' EXIT
 gcc -std=c11 -O2 -g -Iinclude examples/c/check.c target/staticlib/liblpac_host.a -o "$folder/check"
 
 multiplier() { (cd rust && cargo run --release --offline --quiet --bin multiplier -- "$@"); }
-cp examples/sample.lpac examples/multiplier.lpac examples/refused.lpac "$folder"
+cp examples/*.lpac "$folder"
 multiplier 8 16 cells > "$folder/eight"
 multiplier 4 16 fine | sed 's/^in\t17\t/&1 /' > "$folder/wrong_gate"
 : > "$folder/empty"
@@ -23,7 +23,7 @@ errors() {
 }
 
 printf 'text\tverdict\tlpac_check\tcheck.c\n'
-for text in sample.lpac multiplier.lpac eight refused.lpac wrong_gate full long binary empty; do
+for text in sample.lpac multiplier.lpac eight accumulator-16.lpac accumulator-32.lpac refused.lpac wrong_gate full long binary empty; do
     input=$folder/$text
     verdict=$(target/bin/lpac_check < "$input" | cut -f 1)
     program=$(errors "$input" target/bin/lpac_check)
@@ -49,6 +49,9 @@ for proof in lpac_proof pac_proof lpac_proof_as_printed; do
 done
 multiplier --published "$folder/published" 8 fine
 published eight 16 "$folder/published/constraints" "$folder/published/target" "$folder/published/proof"
+for width in 16 32; do
+    published "accumulator-$width" "$width" "examples/published/accumulator-$width/"{constraints,target,proof}
+done
 # One name more than there are variables.
 words=$(sed -n 's/^pub const SET_WORDS: usize = \([0-9]*\);$/\1/p' crates/limits/src/lib.rt)
 { printf '1 ' && seq $((64 * words + 1)) | sed 's/.*/n&/' | paste -sd '*' && printf ';'; } > "$folder/names"

@@ -3,11 +3,11 @@
 
 mod limits;
 
-use crate::multiplier::{self, STYLES};
+use crate::multiplier;
 use crate::proofs::{lines_with_ones, ENDS};
 use crate::published::{plain, plain_names, Draft, Published, Publisher, Statement};
 use crate::random::Random;
-use crate::texts::{damaged, end_number, wrong_step};
+use crate::texts::{damaged, end_number, some_block, wrong_step};
 use crate::width::VARIABLES;
 
 /// The three texts with this number, for a checker that takes so many bytes of them together.
@@ -216,20 +216,19 @@ fn with_damage(mut published: Published, random: &mut Random) -> Published {
     published
 }
 
-// ---- multiplier proofs, most of them small; two of three with a statement changed or damaged
+// ---- multiplier proofs, most of them small, one of two with an accumulator; two of three with a statement changed or damaged
 
 fn multiplier(random: &mut Random) -> Published {
-    let n = 2 + random.below(7).min(random.below(7));
-    let (k, style) = (random.between(1, 64) as u32, *random.pick(&STYLES));
+    let (block, k, style) = some_block(random);
     match random.below(3) {
-        0 => multiplier::published(n, k, style),
+        0 => multiplier::published(block, k, style),
         1 => {
-            let text = String::from_utf8(multiplier::text(n, k, style)).unwrap();
+            let text = String::from_utf8(multiplier::text(block, k, style)).unwrap();
             let lines: Vec<String> = text.lines().map(String::from).collect();
             let draft = Publisher { names: names(random), random: Some(random) }.draft(&lines);
             near_miss_of(draft, random).laid_out(plain)
         }
-        _ => with_damage(multiplier::published(n, k, style), random),
+        _ => with_damage(multiplier::published(block, k, style), random),
     }
 }
 

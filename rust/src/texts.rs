@@ -1,7 +1,7 @@
 //! Texts for comparing two checkers: true proofs, near misses of them, damaged bytes, every limit on both sides, multipliers.
 //! The text with a given number is the same in every run.
 
-use crate::multiplier::{self, STYLES};
+use crate::multiplier::{self, Block, Style, STYLES};
 use crate::polynomial::{Polynomial, Variable};
 use crate::proofs::{self, polynomial, ENDS};
 use crate::random::Random;
@@ -247,11 +247,19 @@ fn number_at_its_end(random: &mut Random) -> Vec<u8> {
     .into_bytes()
 }
 
-// ---- multiplier proofs, most of them small; two of three with a line changed or damaged
+// ---- multiplier proofs, most of them small, one of two with an accumulator; two of three with a line changed or damaged
+
+/// A block, k and a style for its proof.
+pub(crate) fn some_block(random: &mut Random) -> (Block, u32, Style) {
+    let n = 2 + random.below(7).min(random.below(7));
+    let block = if random.once_in(2) { Block::multiplier(n) } else { Block::accumulator(n, random.between(1, Block::GREATEST_WIDTH)) };
+    let k = random.between(1, block.greatest_ring() as usize) as u32;
+    (block, k, *random.pick(&STYLES))
+}
 
 fn multiplier(random: &mut Random) -> Vec<u8> {
-    let n = 2 + random.below(7).min(random.below(7));
-    let text = multiplier::text(n, random.between(1, 64) as u32, *random.pick(&STYLES));
+    let (block, k, style) = some_block(random);
+    let text = multiplier::text(block, k, style);
     match random.below(3) {
         0 => text,
         1 => near_miss(String::from_utf8(text).unwrap().lines().map(String::from).collect(), random),

@@ -1,7 +1,8 @@
-//! Texts to measure with: the 8 by 8 multiplier in three styles, and the dearest texts of each kind that we know.
+//! Texts to measure with: the 8 by 8 multiplier in three styles, the same with an accumulator behind it, and the dearest texts of each
+//! kind that we know.
 
 use crate::host::TEXT_BYTES;
-use crate::multiplier::{self, Style};
+use crate::multiplier::{self, Block, Style};
 use crate::random::Random;
 use crate::width::VARIABLES;
 
@@ -93,13 +94,26 @@ fn longest() -> Vec<u8> {
     grown(head, MOST_BYTES, |_| Some("lin\t2\t1.2 -1.0.2\t1\t1.0 -1\ndel\t2\n".to_string()))
 }
 
-/// All texts to measure with. Only the last is too long for the host call.
-pub fn all() -> Vec<Measured> {
-    let multiplier = |style| multiplier::text(8, 16, style);
-    [
+/// The 8 by 8 multiplier, and with an accumulator of 16 bits and of 32, in each style.
+pub fn blocks() -> Vec<Measured> {
+    let multiplier = |style| multiplier::text(Block::multiplier(8), 16, style);
+    let accumulator = |width, style| multiplier::text(Block::accumulator(8, width), width as u32, style);
+    named([
         ("onelin", multiplier(Style::OneLin)),
         ("cells", multiplier(Style::Cells)),
         ("fine", multiplier(Style::Fine)),
+        ("onelin-16", accumulator(16, Style::OneLin)),
+        ("cells-16", accumulator(16, Style::Cells)),
+        ("fine-16", accumulator(16, Style::Fine)),
+        ("onelin-32", accumulator(32, Style::OneLin)),
+        ("cells-32", accumulator(32, Style::Cells)),
+        ("fine-32", accumulator(32, Style::Fine)),
+    ])
+}
+
+/// All texts to measure with. Only the last is too long for the host call.
+pub fn all() -> Vec<Measured> {
+    let dearest = named([
         ("products-64", products(64)),
         ("products-256", products(256)),
         ("products-1024", products(1_024)),
@@ -108,8 +122,10 @@ pub fn all() -> Vec<Measured> {
         ("decimals", decimals()),
         ("pairs", pairs()),
         ("longest", longest()),
-    ]
-    .into_iter()
-    .map(|(name, text)| Measured { name, text })
-    .collect()
+    ]);
+    blocks().into_iter().chain(dearest).collect()
+}
+
+fn named<const N: usize>(texts: [(&'static str, Vec<u8>); N]) -> Vec<Measured> {
+    texts.into_iter().map(|(name, text)| Measured { name, text }).collect()
 }

@@ -4,12 +4,14 @@ mod common;
 
 use common::{at_root, c_example, run, run_check_program, run_lpac};
 use lofashunge::host::{self, VERDICTS};
-use lofashunge::multiplier::{self, Style};
+use lofashunge::multiplier::{self, Block, Style};
 use std::path::Path;
 use std::process::{Command, Output};
 
 /// Each file with what the command says of it, and its verdict and line.
-const EXAMPLES: [(&str, &str, &str); 3] = [
+const EXAMPLES: [(&str, &str, &str); 5] = [
+    ("examples/accumulator-16.lpac", "accepted", "0\t0"),
+    ("examples/accumulator-32.lpac", "accepted", "0\t0"),
     ("examples/multiplier.lpac", "accepted", "0\t0"),
     ("examples/refused.lpac", "refused, MISMATCH (12) at line 4: lin\\t2\\t1.2\\t1\\t1.0 -1", "12\t4"),
     ("examples/sample.lpac", "accepted", "0\t0"),
@@ -56,8 +58,14 @@ fn help_lists_every_verdict() {
 }
 
 #[test]
-fn the_multiplier_is_the_one_that_the_maker_makes() {
-    assert_eq!(std::fs::read(at_root("examples/multiplier.lpac")).unwrap(), multiplier::text(2, 4, Style::Cells));
+fn the_blocks_are_those_that_the_maker_makes() {
+    for (name, block, k) in [
+        ("multiplier", Block::multiplier(2), 4),
+        ("accumulator-16", Block::accumulator(8, 16), 16),
+        ("accumulator-32", Block::accumulator(8, 32), 32),
+    ] {
+        assert_eq!(std::fs::read(at_root(&format!("examples/{name}.lpac"))).unwrap(), multiplier::text(block, k, Style::Cells), "{name}");
+    }
 }
 
 // ---- C

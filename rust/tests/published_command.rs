@@ -4,7 +4,7 @@ mod common;
 
 use common::{at_root, c_example, fails, run, run_lpac, PublishedFiles};
 use lofashunge::host;
-use lofashunge::multiplier::{self, Style, STYLES};
+use lofashunge::multiplier::{self, Block, Style, STYLES};
 use lofashunge::published::Published;
 use std::process::{Command, Output};
 
@@ -53,16 +53,31 @@ fn the_readme_shows_what_the_command_says() {
             shown += 1;
         }
     }
-    assert_eq!(shown, 4);
+    assert_eq!(shown, 5);
 }
 
 #[test]
-fn the_multiplier_that_the_maker_makes_is_accepted_in_each_style() {
+fn what_the_maker_makes_is_accepted_in_each_style() {
+    let blocks = [(Block::multiplier(8), 16), (Block::accumulator(8, 16), 16), (Block::accumulator(8, 32), 32)];
     for (place, style) in STYLES.into_iter().enumerate() {
-        let files = PublishedFiles::new(&format!("eight_{place}"), &multiplier::published(8, 16, style));
-        let [constraints, target, proof] = files.paths().map(|path| path.to_str().unwrap().to_string());
-        says(check("16", [&constraints, &target], &proof), 0, &format!("{proof}: accepted"));
-        files.remove();
+        for (block, k) in blocks {
+            let files = PublishedFiles::new(&format!("eight_{place}"), &multiplier::published(block, k, style));
+            let [constraints, target, proof] = files.paths().map(|path| path.to_str().unwrap().to_string());
+            says(check(&k.to_string(), [&constraints, &target], &proof), 0, &format!("{proof}: accepted"));
+            files.remove();
+        }
+    }
+}
+
+#[test]
+fn the_accumulators_are_those_that_the_maker_makes_and_are_accepted() {
+    for width in [16, 32] {
+        let texts = multiplier::published(Block::accumulator(8, width), width as u32, Style::Cells);
+        let [constraints, target, proof] =
+            ["constraints", "target", "proof"].map(|name| format!("examples/published/accumulator-{width}/{name}"));
+        let shipped = [&constraints, &target, &proof].map(|path| std::fs::read(at_root(path)).unwrap());
+        assert_eq!(shipped, [texts.constraints, texts.target, texts.proof]);
+        says(check(&width.to_string(), [&constraints, &target], &proof), 0, &format!("{proof}: accepted"));
     }
 }
 
@@ -169,7 +184,7 @@ fn a_file_that_cannot_be_read_is_named() {
 
 #[test]
 fn one_of_the_three_may_be_standard_input() {
-    let texts = multiplier::published(2, 4, Style::Cells);
+    let texts = multiplier::published(Block::multiplier(2), 4, Style::Cells);
     let files = PublishedFiles::new("standard_input", &texts);
     let [constraints, target, proof] = files.paths().map(|path| path.to_str().unwrap().to_string());
     says(run_lpac(&["check", "--ring", "4", &constraints, &target, "-"], &texts.proof), 0, "-: accepted");

@@ -1,14 +1,15 @@
 //! What checking costs.
 //!
 //! `bench` times the host call, the independent checker and a loop that only looks at each byte, in turns in one run.
-//! `bench names` and `bench text NAME` write the texts. For a tool that counts instructions, `bench proved`, `bench independent` and
-//! `bench floor` take one from standard input, `bench lines FILE` and `bench published K CONSTRAINTS TARGET PROOF` give files to the
-//! host calls, and `bench reduce N ORDER` reduces a run of N terms.
+//! `bench room` tells how full the multipliers make the host's pool and the table. `bench names` and `bench text NAME` write the texts.
+//! For a tool that counts instructions, `bench proved`, `bench independent` and `bench floor` take one from standard input,
+//! `bench lines FILE` and `bench published K CONSTRAINTS TARGET PROOF` give files to the host calls, and `bench reduce N ORDER` reduces a
+//! run of N terms.
 
 use lofashunge::host::{self, Verdict};
 use lofashunge::independent::{self, Answer};
 use lofashunge::rooms;
-use lofashunge::width::{POOL, SCRATCH, TERM_WORDS};
+use lofashunge::width::{LEAST_POOL, POOL, POOL_TERMS, SCRATCH, TERM_WORDS};
 use lofashunge::worst::{self, Measured};
 use std::hint::black_box;
 use std::io::{Read, Write};
@@ -62,6 +63,36 @@ fn table() {
     worst::all().iter().filter(|m| m.text.len() <= host::TEXT_BYTES).for_each(row);
 }
 
+/// The terms that a pool must hold for a text that is accepted in the host's.
+fn terms_needed(text: &[u8]) -> usize {
+    let accepted = |terms: usize| rooms::answer(text, &mut vec![0; terms * TERM_WORDS], &mut [0; SCRATCH]).verdict == 0;
+    let (mut refused, mut enough) = (LEAST_POOL / TERM_WORDS - 1, POOL_TERMS);
+    assert!(accepted(enough) && !accepted(refused), "accepted in the host's pool and not in the least that is too short");
+    while refused + 1 < enough {
+        let between = (refused + enough) / 2;
+        *if accepted(between) { &mut enough } else { &mut refused } = between;
+    }
+    enough
+}
+
+/// The most polynomials that the lines of a text store at once.
+fn most_stored(text: &[u8]) -> usize {
+    let mut stored = 0;
+    let after_line = text.split(|&b| b == b'\n').map(|line| {
+        stored += [&b"in\t"[..], b"lin\t", b"ext\t"].iter().any(|keyword| line.starts_with(keyword)) as usize;
+        stored -= line.starts_with(b"del\t") as usize;
+        stored
+    });
+    after_line.max().unwrap_or(0)
+}
+
+fn room_table() {
+    println!("| text | terms stored at once, of {POOL_TERMS} | polynomials, of 512 |\n|---|---|---|");
+    for m in worst::blocks() {
+        println!("| {} | {} | {} |", m.name, terms_needed(&m.text), most_stored(&m.text));
+    }
+}
+
 /// The lowest word of the set of the i-th term of n.
 fn key(order: &str) -> fn(n: u64, i: u64) -> u64 {
     match order {
@@ -106,6 +137,7 @@ fn main() {
     let words: Vec<&str> = args.iter().map(String::as_str).collect();
     match words[..] {
         [] => table(),
+        ["room"] => room_table(),
         ["names"] => worst::all().iter().for_each(|m| println!("{}", m.name)),
         ["text", name] => {
             let all = worst::all();
@@ -122,7 +154,7 @@ fn main() {
         }
         ["reduce", n, order] => println!("{}", reduced(n.parse().expect("a count of terms"), order)),
         _ => panic!(
-            "usage: bench [names | text NAME | proved | independent | floor | lines FILE | published K CONSTRAINTS TARGET PROOF | reduce N ORDER]"
+            "usage: bench [room | names | text NAME | proved | independent | floor | lines FILE | published K CONSTRAINTS TARGET PROOF | reduce N ORDER]"
         ),
     }
 }
