@@ -1,3 +1,10 @@
+pub mod Exact
+pub mod ExactBytes
+pub mod FormByte
+pub mod ExactLines
+pub mod LineByte
+pub mod ExactPublished
+pub mod ExactSteps
 pub mod Stands
 pub mod Course
 pub mod Zeros

@@ -21,6 +21,10 @@ pub clash : {A : Type 0} {x : A} {s t : Bytes} → stuck s ≡ got x t → ⊥
 clash e = let z : _≡_ {A = ℕ} 0 1 = cc in omega arith
 
 -- ---- one reader after the other
+pub next-give : {A : Type 0} (r : Read A) → r ≡ next r (λ x s. got x s)
+next-give (got x s) = refl
+next-give (stuck s) = refl
+
 module _ {A B : Type 0} where
   pub next-assoc : {C : Type 0} (r : Read A) (f : A → Reader B) (g : B → Reader C) → next (next r f) g ≡ next r (λ x s. next (f x s) g)
   next-assoc (got x s) f g = refl

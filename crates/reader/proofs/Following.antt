@@ -7,7 +7,7 @@ use native.Mathlib.Omega.{arith}
 use lib.ListN.{length, drop, getD, length-drop, drop-of-length-le}
 use lib.Seq.{drop-cons}
 use Rattle.paper.specs.Grammar.{Bytes, Read, got, stuck, Reader, next, give, end, each}
-use Rattle.paper.proofs.Reading.{next-assoc, Takes, after-length, each-more, each-stuck}
+use Rattle.paper.proofs.Reading.{next-assoc, next-give, Takes, after-length, each-more, each-stuck}
 use Rattle.reader.specs.Places.{Got, Fails}
 use Rattle.reader.specs.Marks.{Mark}
 use Rattle.reader.specs.Fields.{Told, Took}
@@ -50,10 +50,6 @@ got-onward read t {s} {at} {x} {e} g =
     omega (arith, after-length (t (drop at s) x (drop e s) (g .reads)), length-drop at s, length-drop e s)
 
 -- ---- as many items as follow
-next-give : {A : Type 0} (r : Read A) → r ≡ next r (λ x s. got x s)
-next-give (got x s) = refl
-next-give (stuck s) = refl
-
 next-same : {A B : Type 0} (r : Read A) (f g : A → Reader B) → ((x : A) (s : Bytes) → f x s ≡ g x s) → next r f ≡ next r g
 next-same (got x s) f g h = h x s
 next-same (stuck s) f g h = refl
