@@ -13,12 +13,13 @@ extern "C" {
    In the language of the proofs the argument is one byte slice, which crosses as a pointer and a length.
    `text` points to that many readable bytes and is not NULL, not even where `bytes` is 0.
    Nothing is written there and nothing is kept. The room is the call's own, some 150 KB of stack, and any number
-   of threads may call at once. A text above 65,536 bytes is LPAC_LONGTEXT and is not read. */
+   of threads may call at once. A text above 65,536 bytes is LPAC_LONGTEXT and is not read. Variables are 0 to 319, and 1,333 terms
+   can be stored at once. */
 uint64_t lpac_verdict(const uint8_t *text, size_t bytes);
 
 /* Checks constraints, target and proof as LPAC is published, modulo 2^k, and gives verdict + 32 * line.
    The line is the refused statement's place over the three texts, from 1 upward. All that is said of `text` holds of each of
-   the three, which may overlap; the stack is some 170 KB. Together above 65,536 bytes they are LPAC_LONGTEXT and not read; k
+   the three, which may overlap; the stack is some 180 KB. Together above 65,536 bytes they are LPAC_LONGTEXT and not read; k
    outside 1 to 64 is LPAC_NUMBER at line 0. */
 uint64_t lpac_published_verdict(uint64_t k, const uint8_t *constraints, size_t constraints_bytes, const uint8_t *target,
                                 size_t target_bytes, const uint8_t *proof, size_t proof_bytes);

@@ -5,6 +5,7 @@ mod common;
 use common::{at_root, c_example, run, run_check_program, run_lpac};
 use lofashunge::host::{self, VERDICTS};
 use lofashunge::multiplier::{self, Block, Style};
+use lofashunge::width::{LEAST_POOL, LEAST_SCRATCH, POOL_TERMS, TERM_WORDS, VARIABLES};
 use std::path::Path;
 use std::process::{Command, Output};
 
@@ -55,6 +56,45 @@ fn help_lists_every_verdict() {
         assert!(words.contains(&format!("{number:2}  {name:10}  {when}\n")));
     }
     assert_eq!(said.status.code(), Some(0));
+}
+
+/// A number below a million as the pages write it.
+fn written(n: usize) -> String {
+    if n < 1_000 {
+        n.to_string()
+    } else {
+        format!("{},{:03}", n / 1_000, n % 1_000)
+    }
+}
+
+#[test]
+fn help_header_and_pages_have_the_numbers_of_the_width() {
+    let said = run_lpac(&["--help"], b"");
+    let page = |path: &str| std::fs::read_to_string(at_root(path)).unwrap();
+    let (last, one_more) = (VARIABLES - 1, VARIABLES + 1);
+    let [least, scratch, terms] = [LEAST_POOL, LEAST_SCRATCH, POOL_TERMS].map(written);
+    for (page, numbers) in [
+        (String::from_utf8(said.stdout).unwrap(), vec![format!("or {terms} terms are not enough"), format!("a {one_more}st name")]),
+        (page("include/lpac.h"), vec![format!("Variables are 0 to {last}, and {terms} terms")]),
+        (page("README.md"), vec![format!("A text may have {VARIABLES} variables")]),
+        (
+            page("docs/FORMAT.md"),
+            vec![
+                format!("| variable | 0 to {last} |"),
+                format!("pool words / {TERM_WORDS}, never above 65,536; {terms} in"),
+                format!("pool below {least} words or scratch below {scratch};"),
+                format!("SHORT (scratch below {least} words)"),
+            ],
+        ),
+        (
+            page("docs/PUBLISHED.md"),
+            vec![format!("a decimal from 0 to {last} without"), format!("a {one_more}st name"), format!("| names | {VARIABLES} |")],
+        ),
+    ] {
+        for number in numbers {
+            assert!(page.contains(&number), "{number}");
+        }
+    }
 }
 
 #[test]
