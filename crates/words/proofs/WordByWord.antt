@@ -15,8 +15,9 @@ use lib.Seq.{drop-cons, take-all}
 use Rattle.algebra.specs.Polynomial.{bit, has, members}
 use Rattle.algebra.proofs.Sets.{bit-or, bit-ext}
 use Rattle.words.specs.Words.{numberOf, orderOf}
+use Rattle.words.specs.declared.Order.{Order}
 use Rattle.words.specs.declared.Order.the-variants.{Less, Equal, Greater}
-use Rattle.words.proofs.Laws.{Words, words-set, pow-words, number-lt, number-take, number-take-lt, is-order, number-less, number-bit, length-members}
+use Rattle.words.proofs.Laws.{Words, words-set, pow-words, number-lt, number-take, number-take-lt, is-order, order-says, number-less, number-bit, length-members}
 
 -- ---- union
 or-left-comm : (a b c : ℕ) → bitOr a (bitOr b c) ≡ bitOr b (bitOr a c)
@@ -76,29 +77,25 @@ unfolding has bit
 number-has ws v f = ap (λ (x : ℕ). eqb x 1) (and-mask (getD ws (v / 64) 0 / 2 ^ (v % 64)) 1 ∙ sym (number-bit ws v f))
 
 -- ---- order
--- from the highest word down: the words from n on are equal, and word n - 1 comes next
+-- from the highest word down: the words above i are equal, and word i comes next
 module _ (us ws : List ℕ) (l : length us ≡ length ws) where
   pub order-start : (n : ℕ) → length us ≤ n → drop n us ≡ drop n ws
   order-start n h = drop-of-length-le us {i = n} h ∙ sym (drop-of-length-le ws {i = n} (omega arith))
 
-  module _ (n : ℕ) (above : drop n us ≡ drop n ws) (some : 0 < n) (inside : n ≤ length us) where
-    next : suc (n - 1) ≡ n
-    next = omega arith
+  module _ (i : ℕ) (above : drop (suc i) us ≡ drop (suc i) ws) (inside : i < length us) where
+    pub order-next : getD us i 0 ≡ getD ws i 0 → drop i us ≡ drop i ws
+    order-next e = drop-cons us i 0 inside ∙ ap₂ _∷_ e above ∙ sym (drop-cons ws i 0 (omega arith))
 
-    pub order-less : Words us → getD us (n - 1) 0 < getD ws (n - 1) 0 → Less ≡ orderOf (numberOf us) (numberOf ws)
-    order-less f o = is-order Less (numberOf us) (numberOf ws) (number-less (n - 1) us ws l f (omega arith) (rw next above) o)
+    -- it decides, where it differs
+    pub order-decides : Words us → Words ws → (getD us i 0 ≡ getD ws i 0 → ⊥) → (r : Order) → r ≡ orderOf (getD us i 0) (getD ws i 0)
+        → r ≡ orderOf (numberOf us) (numberOf ws)
+    order-decides f g differ Less e = is-order Less _ _ (number-less i us ws l f inside above (order-says Less _ _ e))
+    order-decides f g differ Equal e = absurd (differ (order-says Equal _ _ e))
+    order-decides f g differ Greater e =
+        is-order Greater _ _ (number-less i ws us (sym l) g (omega arith) (sym above) (order-says Greater _ _ e))
 
-    pub order-greater : Words ws → getD ws (n - 1) 0 < getD us (n - 1) 0 → Greater ≡ orderOf (numberOf us) (numberOf ws)
-    order-greater f o = is-order Greater (numberOf us) (numberOf ws) (number-less (n - 1) ws us (sym l) f (omega arith) (rw next (sym above)) o)
-
-    pub order-next : getD us (n - 1) 0 ≡ getD ws (n - 1) 0 → drop (n - 1) us ≡ drop (n - 1) ws
-    order-next o =
-        drop-cons us (n - 1) 0 (omega arith)
-        ∙ ap₂ _∷_ o (rw next above)
-        ∙ sym (drop-cons ws (n - 1) 0 (omega arith))
-
-pub order-end : (us ws : List ℕ) (n : ℕ) → drop n us ≡ drop n ws → n ≤ 0 → Equal ≡ orderOf (numberOf us) (numberOf ws)
-order-end us ws n e h = let z : n ≡ 0 = omega arith in is-order Equal (numberOf us) (numberOf ws) (ap numberOf (rw z at e))
+  pub order-end : drop 0 us ≡ drop 0 ws → Equal ≡ orderOf (numberOf us) (numberOf ws)
+  order-end e = is-order Equal _ _ (ap numberOf e)
 
 -- ---- count
 -- the variables of the lowest words, word by word

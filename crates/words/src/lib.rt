@@ -80,24 +80,37 @@ pub fn with(a: Set, v: usize) -> Set
     r
 }
 
-// The order of two sets as numbers: the highest words that differ decide.
+// The order of two sets as numbers, which are written in words: the highest words that differ decide.
 pub fn compare(a: Set, b: Set) -> Order
     ensures { λ r. ⌜ r ≡ orderOf (numberOf a) (numberOf b) ⌝ }
 {
-    let mut n = limits::SET_WORDS;
-    while 0 < n {
-        let i = n - 1;
-        let x = a[i];
-        let y = b[i];
-        if x < y {
-            return Order::Less;
-        }
-        if y < x {
-            return Order::Greater;
-        }
-        n = i;
+    if a[4] != b[4] {
+        return decide(a[4], b[4]);
+    }
+    if a[3] != b[3] {
+        return decide(a[3], b[3]);
+    }
+    if a[2] != b[2] {
+        return decide(a[2], b[2]);
+    }
+    if a[1] != b[1] {
+        return decide(a[1], b[1]);
+    }
+    if a[0] != b[0] {
+        return decide(a[0], b[0]);
     }
     Order::Equal
+}
+
+// The order of two words that differ.
+fn decide(x: u64, y: u64) -> Order
+    requires { ⌜ (x ≡ y → ⊥) ⌝ }
+    ensures { λ r. ⌜ r ≡ orderOf x y ⌝ }
+{
+    if x < y {
+        return Order::Less;
+    }
+    Order::Greater
 }
 
 // How many variables a has.

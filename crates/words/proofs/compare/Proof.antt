@@ -1,49 +1,70 @@
--- `words::compare` meets its contract. The loop's invariant: the words from n on are equal. The measure is n.
--- Assumes nothing.
+-- `words::compare` meets its contract: where a word is looked at, those above it are equal. Assumes nothing.
 use mathlib.Core.Path.{_≡_}
-use Prim.Native.Nat.{_≤_}
-use native.Mathlib.Omega.{arith}
 use lib.ListN.{drop}
 use borrow.Author.Needs.{needs}
 use Rattle.limits.specs.Limits.{setWords}
-use Rattle.words.proofs.WordByWord.{order-start, order-less, order-greater, order-next, order-end}
+use Rattle.words.proofs.WordByWord.{order-start, order-next, order-decides, order-end}
 use Rattle.words.proofs.compare.Statement.{statement}
 use Rattle.words.proofs.compare.Tie as tie
 
-abbrev Inv-loop : tie.InvT-loop
-Inv-loop a b n₀ n = (n ≤ setWords) × (drop n a ≡ drop n b)
+-- the words above the one that a decision looks at, and at the end all of them
+above₄ : (c : tie.Start) → drop 5 (c .args .t1) ≡ drop 5 (c .args .t2)
+above₄ c = order-start (c .args .t1) (c .args .t2) (search needs) setWords (search needs)
 
-abbrev μ-loop : tie.MeasureT-loop
-μ-loop a b n₀ n = n
+above₃ : (c : tie.Else1) → let a = c .before .args in drop 4 (a .t1) ≡ drop 4 (a .t2)
+above₃ c = let a = c .before .args in order-next (a .t1) (a .t2) (search needs) 4 (above₄ (c .before)) (search needs) (c .if1 .left)
 
-loop-holds : tie.Need-loop-holds Inv-loop μ-loop
-loop-holds c = (omega arith, order-start (c .args .t1) (c .args .t2) (search needs) setWords (search needs))
+above₂ : (c : tie.Else2) → let a = c .before .before .args in drop 3 (a .t1) ≡ drop 3 (a .t2)
+above₂ c = let a = c .before .before .args in order-next (a .t1) (a .t2) (search needs) 3 (above₃ (c .before)) (search needs) (c .if2 .left)
 
-returns : tie.Need-returns Inv-loop μ-loop
+above₁ : (c : tie.Else3) → let a = c .before .before .before .args in drop 2 (a .t1) ≡ drop 2 (a .t2)
+above₁ c = let a = c .before .before .before .args in order-next (a .t1) (a .t2) (search needs) 2 (above₂ (c .before)) (search needs) (c .if3 .left)
+
+above₀ : (c : tie.Else4) → let a = c .before .before .before .before .args in drop 1 (a .t1) ≡ drop 1 (a .t2)
+above₀ c = let a = c .before .before .before .before .args in order-next (a .t1) (a .t2) (search needs) 1 (above₁ (c .before)) (search needs) (c .if4 .left)
+
+all : (c : tie.Else5) → let a = c .before .before .before .before .before .args in drop 0 (a .t1) ≡ drop 0 (a .t2)
+all c = let a = c .before .before .before .before .before .args in order-next (a .t1) (a .t2) (search needs) 0 (above₀ (c .before)) (search needs) (c .if5 .left)
+
+returns : tie.Need-returns
 returns c =
-    let loop = c .before .before .loop in
-    let args = c .before .before .before .args in
-    order-less (args .t1) (args .t2) (search needs) (loop .n) (loop .inv .1) (omega arith) (search needs) (λ i. search needs) (c .if1 .taken)
+    let a = c .before .before .args in
+    order-decides (a .t1) (a .t2) (search needs) 4 (above₄ (c .before .before)) (search needs) (λ i. search needs) (λ i. search needs)
+    (c .before .if1 .taken) _ (c .decide .ensures)
 
-returns-2 : tie.Need-returns-2 Inv-loop μ-loop
+returns-2 : tie.Need-returns-2
 returns-2 c =
-    let loop = c .before .before .before .loop in
-    let args = c .before .before .before .before .args in
-    order-greater (args .t1) (args .t2) (search needs) (loop .n) (loop .inv .1) (omega arith) (search needs) (λ i. search needs) (c .if2 .taken)
+    let a = c .before .before .before .args in
+    order-decides (a .t1) (a .t2) (search needs) 3 (above₃ (c .before .before)) (search needs) (λ i. search needs) (λ i. search needs)
+    (c .before .if2 .taken) _ (c .decide2 .ensures)
 
-loop-again : tie.Need-loop-again Inv-loop μ-loop
-loop-again c =
-    let loop = c .before .before .before .loop in
-    let args = c .before .before .before .before .args in
-    (omega arith, order-next (args .t1) (args .t2) (search needs) (loop .n) (loop .inv .1) (omega arith) (search needs) (omega arith))
-
-returns-3 : tie.Need-returns-3 Inv-loop μ-loop
+returns-3 : tie.Need-returns-3
 returns-3 c =
-    let loop = c .before .loop in
-    let args = c .before .before .args in
-    order-end (args .t1) (args .t2) (loop .n) (loop .inv .1) (omega arith)
+    let a = c .before .before .before .before .args in
+    order-decides (a .t1) (a .t2) (search needs) 2 (above₂ (c .before .before)) (search needs) (λ i. search needs) (λ i. search needs)
+    (c .before .if3 .taken) _ (c .decide3 .ensures)
+
+returns-4 : tie.Need-returns-4
+returns-4 c =
+    let a = c .before .before .before .before .before .args in
+    order-decides (a .t1) (a .t2) (search needs) 1 (above₁ (c .before .before)) (search needs) (λ i. search needs) (λ i. search needs)
+    (c .before .if4 .taken) _ (c .decide4 .ensures)
+
+returns-5 : tie.Need-returns-5
+returns-5 c =
+    let a = c .before .before .before .before .before .before .args in
+    order-decides (a .t1) (a .t2) (search needs) 0 (above₀ (c .before .before)) (search needs) (λ i. search needs) (λ i. search needs)
+    (c .before .if5 .taken) _ (c .decide5 .ensures)
+
+returns-6 : tie.Need-returns-6
+returns-6 c = let a = c .before .before .before .before .before .args in order-end (a .t1) (a .t2) (search needs) (all c)
 
 pub compare-spec : {M : Type 1} → statement M
 compare-spec =
-    tie.close (tie.spec Inv-loop μ-loop loop-holds (λ c. search needs) (λ c. search needs) (λ c. search needs) (λ c. search needs)
-    (λ c. search needs) returns returns-2 (λ c. search needs) loop-again returns-3)
+    tie.close (tie.spec
+    (λ c. search needs) (λ c. search needs) (λ c. search needs) (λ c. search needs) (λ c κs. c .if1 .taken) returns
+    (λ c. search needs) (λ c. search needs) (λ c. search needs) (λ c. search needs) (λ c κs. c .if2 .taken) returns-2
+    (λ c. search needs) (λ c. search needs) (λ c. search needs) (λ c. search needs) (λ c κs. c .if3 .taken) returns-3
+    (λ c. search needs) (λ c. search needs) (λ c. search needs) (λ c. search needs) (λ c κs. c .if4 .taken) returns-4
+    (λ c. search needs) (λ c. search needs) (λ c. search needs) (λ c. search needs) (λ c κs. c .if5 .taken) returns-5
+    returns-6)
