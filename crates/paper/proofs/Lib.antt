@@ -13,7 +13,6 @@ pub mod Accepted
 pub mod Store
 pub mod Counts
 pub mod Running
-pub mod RefusedByte
 pub mod Numbers
 pub mod Reading
 pub mod Pieces

@@ -182,16 +182,16 @@ takes_signed : (b : ℕ) → Takes byte 1 (signed_monomial b)
 takes_signed b = takes_then spaces _ takes_spaces (λ _. takes_monomial (eqb b (code "-")))
 
 more_by_signed : (n b : ℕ) (s : Bytes)
-    → (do spaces; m ← monomial (eqb b (code "-")); ms ← up_to_monomials monomial n; give (m ∷ ms)) s ≡ next (signed_monomial b s) (λ m r. next (up_to_monomials monomial n r) (λ ms t. got (m ∷ ms) t))
+    → (do spaces; m ← monomial (eqb b (code "-")); ms ← up_to_monomials n; give (m ∷ ms)) s ≡ next (signed_monomial b s) (λ m r. next (up_to_monomials n r) (λ ms t. got (m ∷ ms) t))
 more_by_signed n b s = go (spaces s)
   where
     go : (r : Read (Unit {0}))
-        → next r (λ _. do m ← monomial (eqb b (code "-")); ms ← up_to_monomials monomial n; give (m ∷ ms))
-        ≡ next (next r (λ _. monomial (eqb b (code "-")))) (λ m r. next (up_to_monomials monomial n r) (λ ms t. got (m ∷ ms) t))
+        → next r (λ _. do m ← monomial (eqb b (code "-")); ms ← up_to_monomials n; give (m ∷ ms))
+        ≡ next (next r (λ _. monomial (eqb b (code "-")))) (λ m r. next (up_to_monomials n r) (λ ms t. got (m ∷ ms) t))
     go (got x r) = refl
     go (stuck r) = refl
 
-up_to_monomials_enough : (m k : ℕ) (s : Bytes) → length s ≤ m → length s ≤ k → up_to_monomials monomial m s ≡ up_to_monomials monomial k s
+up_to_monomials_enough : (m k : ℕ) (s : Bytes) → length s ≤ m → length s ≤ k → up_to_monomials m s ≡ up_to_monomials k s
 unfolding up_to_monomials
 up_to_monomials_enough zero zero s h l = refl
 up_to_monomials_enough zero (suc k) [] h l = refl
@@ -203,8 +203,8 @@ up_to_monomials_enough (suc m) (suc k) (b ∷ s) h l =
     ap (λ (r : Read (List (TermOf Name))). cond (is_sign b) r (got [] (b ∷ s)))
     (more_by_signed m b s ∙ go (signed_monomial b s) refl (λ r p. up_to_monomials_enough m k r (omega arith) (omega arith)) ∙ sym (more_by_signed k b s))
   where
-    go : (r : Read (TermOf Name)) → signed_monomial b s ≡ r → ((r : Bytes) → length r ≤ length s → up_to_monomials monomial m r ≡ up_to_monomials monomial k r)
-        → next r (λ m' r. next (up_to_monomials monomial m r) (λ ms t. got (m' ∷ ms) t)) ≡ next r (λ m' r. next (up_to_monomials monomial k r) (λ ms t. got (m' ∷ ms) t))
+    go : (r : Read (TermOf Name)) → signed_monomial b s ≡ r → ((r : Bytes) → length r ≤ length s → up_to_monomials m r ≡ up_to_monomials k r)
+        → next r (λ m' r. next (up_to_monomials m r) (λ ms t. got (m' ∷ ms) t)) ≡ next r (λ m' r. next (up_to_monomials k r) (λ ms t. got (m' ∷ ms) t))
     go (got x r) e ih =
         let a = takes_signed b s x r e in
         let p : length r ≤ length s = omega (arith, after_length a) in
@@ -245,18 +245,18 @@ takes_minus (b ∷ s) x r e = go (eqb b (code "-")) e
     go true e = after_least (omega arith) (after_more refl (takes_then spaces _ takes_spaces (λ _. takes_give true) s x r e))
     go false e = let q : (b ∷ s) ≡ r = cc in rw (← q) (after_none (b ∷ s))
 
-takes_monomials : (n : ℕ) → Takes byte 0 (up_to_monomials monomial n)
+takes_monomials : (n : ℕ) → Takes byte 0 (up_to_monomials n)
 unfolding up_to_monomials
 takes_monomials zero s x r e = let q : s ≡ r = cc in rw (← q) (after_none s)
 takes_monomials (suc n) [] x r e = let q : [] ≡ r = cc in rw (← q) (after_none [])
 takes_monomials (suc n) (b ∷ s) x r e = go (is_sign b) e (takes_monomials n)
   where
-    go : (t : Bool) → cond t ((do spaces; m ← monomial (eqb b (code "-")); ms ← up_to_monomials monomial n; give (m ∷ ms)) s) (got [] (b ∷ s)) ≡ got x r → Takes byte 0 (up_to_monomials monomial n)
+    go : (t : Bool) → cond t ((do spaces; m ← monomial (eqb b (code "-")); ms ← up_to_monomials n; give (m ∷ ms)) s) (got [] (b ∷ s)) ≡ got x r → Takes byte 0 (up_to_monomials n)
         → After byte 0 (b ∷ s) r
     go true e ih =
         after_least (omega arith)
         (after_more refl
-        (takes_then spaces _ takes_spaces (λ _. takes_then (monomial (eqb b (code "-"))) _ (takes_monomial (eqb b (code "-"))) (λ m. takes_then (up_to_monomials monomial n) _ ih (λ ms. takes_give (m ∷ ms)))) s x r e))
+        (takes_then spaces _ takes_spaces (λ _. takes_then (monomial (eqb b (code "-"))) _ (takes_monomial (eqb b (code "-"))) (λ m. takes_then (up_to_monomials n) _ ih (λ ms. takes_give (m ∷ ms)))) s x r e))
     go false e ih = let q : (b ∷ s) ≡ r = cc in rw (← q) (after_none (b ∷ s))
 
 takes_poly : Takes byte 1 poly

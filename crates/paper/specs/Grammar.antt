@@ -2,7 +2,7 @@
 use mathlib.Core.{Bool.Bool, Bool.true, Bool.false, Bool.cond, Bool.◌&&◌, Bool.not, List.List, List.[], List.◌∷◌}
 use Prim.Native.{Nat.ℕ, Nat.zero, Nat.suc, Nat.◌+◌, Nat.◌-◌, Nat.◌*◌, String.String, String.[] as nil, String.◌∷◌ as cons, Char.code}
 use lib.{Dec.eqb, Dec.leb, ListN.length}
-use Rattle.paper.specs.Statement.{TermOf, WrittenOf, WrittenTerm, Written, Pair, modulo, Statement, ring, input, goal, lin, del, ext, is_ring, isIndex, isVariable}
+use Rattle.paper.specs.Statement.{TermOf, WrittenOf, WrittenTerm, Written, Pair, modulo, Statement, ring, input, goal, lin, del, ext}
 
 -- ---- a text is a list of bytes; each of its lines ends with byte 10
 abbrev pub Bytes : Type 0
@@ -90,16 +90,12 @@ unfoldable pub sign : Reader Bool
 sign [] = got false []
 sign (b ∷ s) = cond (eqb b (code "-")) (got true s) (got false (b ∷ s))
 
--- over the readers of its magnitude and of a variable
-abbrev pub term_by : Reader ℕ → Reader ℕ → Reader WrittenTerm
-term_by size variable = do n ← sign; m ← size; vs ← each (code ".") variable; give (record { negative = n; magnitude = m; variables = vs })
-
 -- the variables behind a magnitude
 abbrev pub more_variables : Reader (List ℕ)
 more_variables = each (code ".") decimal
 
 unfoldable pub term : Reader WrittenTerm
-term = term_by decimal decimal
+term = do n ← sign; m ← decimal; vs ← more_variables; give (record { negative = n; magnitude = m; variables = vs })
 
 -- the terms behind a first
 abbrev pub more_terms : Reader (List WrittenTerm)
@@ -110,12 +106,8 @@ unfoldable pub as_written : {A : Type 0} → TermOf A → List (TermOf A) → Wr
 as_written t [] = cond (not t.negative && eqb t.magnitude 0 && elim t.variables [ [] ↦ true | v ∷ vs ↦ false ]) [] (t ∷ [])
 as_written t (u ∷ ts) = t ∷ u ∷ ts
 
--- over the readers of its first term and of those behind it
-abbrev pub polynomial_by : Reader WrittenTerm → Reader (List WrittenTerm) → Reader Written
-polynomial_by one more = do t ← one; ts ← more; give (as_written t ts)
-
 unfoldable pub polynomial : Reader Written
-polynomial = polynomial_by term more_terms
+polynomial = do t ← term; ts ← more_terms; give (as_written t ts)
 
 -- ---- lines: a keyword, then fields, each behind a tab
 unfoldable pub tab : Reader (Unit {0})
@@ -127,80 +119,41 @@ number = do tab; decimal
 unfoldable pub field : Reader Written
 field = do tab; polynomial
 
--- over the readers of its index and its factor
-abbrev pub pair_by : Reader ℕ → Reader Written → Reader Pair
-pair_by index factor = do i ← index; f ← factor; give (record { index = i; factor = f })
-
 unfoldable pub pair : Reader Pair
-pair = pair_by decimal field
+pair = do i ← decimal; f ← field; give (record { index = i; factor = f })
 
--- one pair or more, over the reader of one; those behind a first
-abbrev pub pairs_by : Reader Pair → Reader (List Pair)
-pairs_by one = do tab; q ← one; qs ← each (code "\t") one; give (q ∷ qs)
-
+-- the pairs behind a first, and one pair or more
 abbrev pub more_pairs : Reader (List Pair)
 more_pairs = each (code "\t") pair
 
 unfoldable pub pairs : Reader (List Pair)
-pairs = pairs_by pair
+pairs = do tab; q ← pair; qs ← more_pairs; give (q ∷ qs)
 
 -- ---- the kinds of lines: a keyword and the reader of its fields
 abbrev pub LineKind : Type 0
 LineKind = Bytes × Reader Statement
 
--- over the readers of its parts, each behind a tab; a number's may look at its range
-pub record Parts : Type 0 where
-  pub number : (ℕ → Bool) → Reader ℕ
-  pub field : Reader Written
-  pub pairs : Reader (List Pair)
-
-module _ (g : Parts) where
-  abbrev pub ring_by : LineKind
-  ring_by = (bytes "ring", do k ← g.number (λ k. is_ring (modulo k)); give (ring (modulo k)))
-
-  abbrev pub input_by : LineKind
-  input_by = (bytes "in", do i ← g.number isIndex; p ← g.field; give (input i p))
-
-  abbrev pub goal_by : LineKind
-  goal_by = (bytes "goal", do p ← g.field; give (goal p))
-
-  abbrev pub lin_by : LineKind
-  lin_by = (bytes "lin", do i ← g.number isIndex; p ← g.field; qs ← g.pairs; give (lin i p qs))
-
-  abbrev pub del_by : LineKind
-  del_by = (bytes "del", do i ← g.number isIndex; give (del i))
-
-  abbrev pub ext_by : LineKind
-  ext_by = (bytes "ext", do i ← g.number isIndex; v ← g.number isVariable; p ← g.field; give (ext i v p))
-
-  -- no two keywords begin with the same byte
-  abbrev pub kinds_by : List LineKind
-  kinds_by = ring_by ∷ input_by ∷ goal_by ∷ lin_by ∷ del_by ∷ ext_by ∷ []
-
--- parts of any size
-abbrev pub any_parts : Parts
-any_parts = record { number = λ _. number; field = field; pairs = pairs }
-
 abbrev pub ring_line : LineKind
-ring_line = ring_by any_parts
+ring_line = (bytes "ring", do k ← number; give (ring (modulo k)))
 
 abbrev pub input_line : LineKind
-input_line = input_by any_parts
+input_line = (bytes "in", do i ← number; p ← field; give (input i p))
 
 abbrev pub goal_line : LineKind
-goal_line = goal_by any_parts
+goal_line = (bytes "goal", do p ← field; give (goal p))
 
 abbrev pub lin_line : LineKind
-lin_line = lin_by any_parts
+lin_line = (bytes "lin", do i ← number; p ← field; qs ← pairs; give (lin i p qs))
 
 abbrev pub del_line : LineKind
-del_line = del_by any_parts
+del_line = (bytes "del", do i ← number; give (del i))
 
 abbrev pub ext_line : LineKind
-ext_line = ext_by any_parts
+ext_line = (bytes "ext", do i ← number; v ← number; p ← field; give (ext i v p))
 
+-- no two keywords begin with the same byte
 unfoldable pub kinds : List LineKind
-kinds = kinds_by any_parts
+kinds = ring_line ∷ input_line ∷ goal_line ∷ lin_line ∷ del_line ∷ ext_line ∷ []
 
 unfoldable pub begins_alike : Bytes → Bytes → Bool
 begins_alike [] s = false

@@ -1,7 +1,6 @@
 pub mod Statement
 pub mod Grammar
 pub mod Beginnings
-pub mod Stops
 pub mod Rules
 pub mod Answer
 pub mod Published
