@@ -47,7 +47,7 @@ def turned(name):
 
 def own(path, crates):
     parts = path.split(".")
-    return parts[0] == "Rattle" and len(parts) > 2 and parts[1] in crates and parts[-1] not in ("Statement", "Tie", "Goals", "Given", "Names")
+    return parts[0] == "Rattle" and len(parts) > 2 and parts[1] in crates
 
 
 def declared(text):

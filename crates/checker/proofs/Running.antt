@@ -12,7 +12,7 @@ use Rattle.ground.proofs.Tests.{split, and_left, and_right, cond_yes, cond_no}
 use Rattle.limits.specs.Limits.{text_bytes, most_pool_terms, term_words, least_scratch}
 use Rattle.limits.specs.Verdicts.{ACCEPTED, NOGOAL, NOTREACHED}
 use Rattle.paper.specs.Grammar.{Bytes, got, ended_by, lines, statement}
-use Rattle.paper.specs.Statement.{Statement, numbersInRange}
+use Rattle.paper.specs.Statement.{Statement, numbers_in_range}
 use Rattle.paper.specs.Rules as paper
 use Rattle.paper.specs.Rules.{steps, start}
 use Rattle.paper.specs.Answer as answers
@@ -148,7 +148,7 @@ module _ {capacity : ℕ} {text : Bytes} {s : State} {pool scratch : List ℕ} w
               early = subst (λ (x : State). x.lines ≤ text_bytes + 1) (sym b) (omega arith);
               onward = λ _. omega arith;
               inside = λ _. omega arith;
-              read = λ _ t. subst (λ (x : ℕ). (st : Statement) × (t : Bytes) × (statement (line_at text at x) ≡ got st t) × (numbersInRange st ≡ true)) (sym c) (refused_read capacity (state_of s pool scratch) (line_at text at e) (read_refused n) t);
+              read = λ _ t. subst (λ (x : ℕ). (st : Statement) × (t : Bytes) × (statement (line_at text at x) ≡ got st t) × (numbers_in_range st ≡ true)) (sym c) (refused_read capacity (state_of s pool scratch) (line_at text at e) (read_refused n) t);
             };
           }
 

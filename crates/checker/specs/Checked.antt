@@ -4,7 +4,7 @@ use Rattle.limits.specs.Limits.{text_bytes}
 use Rattle.limits.specs.Verdicts.{ACCEPTED, TERMS}
 use Rattle.words.specs.Parts.{part}
 use Rattle.paper.specs.Grammar.{Bytes, Line, got, statement}
-use Rattle.paper.specs.Statement.{Statement, numbersInRange}
+use Rattle.paper.specs.Statement.{Statement, numbers_in_range}
 use Rattle.paper.specs.Rules.{State, start}
 use Rattle.paper.specs.Answer as paper
 use Rattle.paper.specs.Answer.{items, room_after}
@@ -32,7 +32,7 @@ pub record Concludes (text : Bytes) (from at : ℕ) (r : Step) : Type 0 where
   pub onward : (r.verdict ≡ 0 → ⊥) → from < at
   pub inside : (r.verdict ≡ 0 → ⊥) → at ≤ length text + 1
   pub read : (r.verdict ≡ 0 → ⊥) → TERMS ≤ r.verdict
-      → (st : Statement) × (t : Bytes) × (statement (line_at text from (at - 1)) ≡ got st t) × (numbersInRange st ≡ true)
+      → (st : Statement) × (t : Bytes) × (statement (line_at text from (at - 1)) ≡ got st t) × (numbers_in_range st ≡ true)
 
 -- ---- the lines were judged in rooms that stay as long
 pub record Ran (capacity : ℕ) (text : Bytes) (pool scratch : List ℕ) (r : Answer) (pool' scratch' : List ℕ) : Type 0 where

@@ -16,7 +16,7 @@ use Rattle.limits.specs.Verdicts.{ACCEPTED, NUMBER, TERMS}
 use Rattle.paper.specs.Rules as paper
 use Rattle.paper.specs.Rules.{first, written_rules, rules}
 use Rattle.paper.specs.Grammar.{Bytes, bytes, Line, Read, got, stuck, Reader, next, give, literal, end, number, field, pairs, LineKind, whole_line, ring_line, goal_line, kinds, begins_alike, one_of, statement}
-use Rattle.paper.specs.Statement.{modulo, Statement, ring, input, goal, lin, del, ext, within, isIndex, isVariable, in_range, numbersInRange}
+use Rattle.paper.specs.Statement.{modulo, Statement, ring, input, goal, lin, del, ext, within, is_index, is_variable, in_range, numbers_in_range}
 use Rattle.paper.specs.Answer.{Outcome, stands, refused, index_of, judge, judge_item, item_of}
 use Rattle.paper.proofs.Reading.{clash, parted}
 use Rattle.steps.specs.Items.{index_of_read}
@@ -48,7 +48,7 @@ fields_of k s {st} e =
 
 -- the index of x is i, and in range where the numbers of x are
 abbrev Has : ℕ → Statement → Type 0
-Has i x = (index_of x ≡ i) × (numbersInRange x ≡ true → isIndex i ≡ true)
+Has i x = (index_of x ≡ i) × (numbers_in_range x ≡ true → is_index i ≡ true)
 
 -- a number first, which all that follows keeps as the index
 numbered : (w : Bytes) (g : ℕ → Reader Statement) → ((i : ℕ) (t : Bytes) (x : Statement) (u : Bytes) → g i t ≡ got x u → Has i x)
@@ -64,8 +64,8 @@ numbered w g h s {st} e =
 
 -- ---- what the number of the head is, where the numbers of the line are in range
 module _ (w s : Bytes) (st : Statement) (n : NumberRead) (p : NumberPart (keyed w number) (within 1 greatest_index) s 0 n) where
-  head_index : (u : Bytes) → keyed w number s ≡ got (index_of st) u → isIndex (index_of st) ≡ true → n.value ≡ index_of st
-  unfolding isIndex first
+  head_index : (u : Bytes) → keyed w number s ≡ got (index_of st) u → is_index (index_of st) ≡ true → n.value ≡ index_of st
+  unfolding is_index first
   head_index u e h = ⊎_elim (λ f. absurd (clash (sym f.1.reads ∙ e))) took p
     where
       took : Taken (keyed w number) (within 1 greatest_index) always (λ i. n.value ≡ i) s 0 n.end n.why → n.value ≡ index_of st
@@ -81,7 +81,7 @@ unfolding index_of
 in_has i t x u e =
     let p = parted (field t) _ e in
     let same : input i p.value ≡ x = (let w = p.second in cc) in
-    subst (Has i) same (refl, λ r. and_left (isIndex i) (in_range p.value) (ranged_input i p.value ∙ r))
+    subst (Has i) same (refl, λ r. and_left (is_index i) (in_range p.value) (ranged_input i p.value ∙ r))
 
 lin_has : (i : ℕ) (t : Bytes) (x : Statement) (u : Bytes) → next (field t) (λ p t. next (pairs t) (λ qs. give (lin i p qs))) ≡ got x u → Has i x
 unfolding index_of
@@ -89,7 +89,7 @@ lin_has i t x u e =
     let p = parted (field t) _ e in
     let q = parted (pairs p.rest) _ p.second in
     let same : lin i p.value q.value ≡ x = (let w = q.second in cc) in
-    subst (Has i) same (refl, λ r. and_left (isIndex i) (in_range p.value) (and_left (isIndex i && in_range p.value) (every pair_ranged q.value) (ranged_lin i p.value q.value ∙ r)))
+    subst (Has i) same (refl, λ r. and_left (is_index i) (in_range p.value) (and_left (is_index i && in_range p.value) (every pair_ranged q.value) (ranged_lin i p.value q.value ∙ r)))
 
 del_has : (i : ℕ) (t : Bytes) (x : Statement) (u : Bytes) → give (del i) t ≡ got x u → Has i x
 unfolding index_of
@@ -101,7 +101,7 @@ ext_has i t x u e =
     let v = parted (number t) _ e in
     let p = parted (field v.rest) _ v.second in
     let same : ext i v.value p.value ≡ x = (let w = p.second in cc) in
-    subst (Has i) same (refl, λ r. and_left (isIndex i) (isVariable v.value) (and_left (isIndex i && isVariable v.value) (in_range p.value) (ranged_ext i v.value p.value ∙ r)))
+    subst (Has i) same (refl, λ r. and_left (is_index i) (is_variable v.value) (and_left (is_index i && is_variable v.value) (in_range p.value) (ranged_ext i v.value p.value ∙ r)))
 
 -- ---- a line that begins with b is of the kind k
 module _ (s : Bytes) (h : 0 < length s) where
@@ -115,12 +115,12 @@ module _ (s : Bytes) (h : 0 < length s) where
   indexed : (b : ℕ) (w : Bytes) (g : ℕ → Reader Statement) → ((v : Bytes) → one_of kinds (b ∷ v) ≡ whole_line (w, λ t. next (number t) g) (b ∷ v))
       → ((i : ℕ) (t : Bytes) (x : Statement) (u : Bytes) → g i t ≡ got x u → Has i x) → get_or s 0 0 ≡ b
       → (n : NumberRead) → NumberPart (keyed w number) (within 1 greatest_index) s 0 n
-      → (st : Statement) (t : Bytes) → statement (record { content = s; ended = true }) ≡ got st t → numbersInRange st ≡ true → n.value ≡ index_of st
+      → (st : Statement) (t : Bytes) → statement (record { content = s; ended = true }) ≡ got st t → numbers_in_range st ≡ true → n.value ≡ index_of st
   indexed b w g same has e n p st t q r =
       let x = numbered w g has s (of_kind b (w, λ t. next (number t) g) same e q) in
       head_index w s st n p x.0 x.1 (x.2.1 r)
 
-  module _ (n : NumberRead) (st : Statement) (t : Bytes) (q : statement (record { content = s; ended = true }) ≡ got st t) (r : numbersInRange st ≡ true) where
+  module _ (n : NumberRead) (st : Statement) (t : Bytes) (q : statement (record { content = s; ended = true }) ≡ got st t) (r : numbers_in_range st ≡ true) where
     pub index_input : get_or s 0 0 ≡ 105 → NumberPart (keyed (bytes "in") number) (within 1 greatest_index) s 0 n → n.value ≡ index_of st
     unfolding kinds one_of begins_alike bytes
     index_input e p = indexed 105 (bytes "in") (λ i t. next (field t) (λ p. give (input i p))) (λ v. refl) in_has e n p st t q r
@@ -172,8 +172,8 @@ none_read (b ∷ s) h st t q = absurd (omega (arith, h))
 
 -- ---- what a refused line reports
 pub reported : (s : Bytes) (ended : Bool) (v i : ℕ) → TERMS ≤ v
-    → (st : Statement) × (t : Bytes) × (statement (record { content = s; ended = ended }) ≡ got st t) × (numbersInRange st ≡ true)
-    → ((st : Statement) (t : Bytes) → statement (record { content = s; ended = true }) ≡ got st t → numbersInRange st ≡ true → i ≡ index_of st)
+    → (st : Statement) × (t : Bytes) × (statement (record { content = s; ended = ended }) ≡ got st t) × (numbers_in_range st ≡ true)
+    → ((st : Statement) (t : Bytes) → statement (record { content = s; ended = true }) ≡ got st t → numbers_in_range st ≡ true → i ≡ index_of st)
     → i ≡ index_of_read v (statement (record { content = s; ended = ended }))
 reported s ended v i m x f =
     f x.0 x.1 (ended_got s ended x.2) x.3
@@ -183,13 +183,13 @@ reported s ended v i m x f =
 -- ---- a line that is refused from TERMS on was read, and its numbers are in range
 abbrev WasRead : Read Statement → Outcome → Type 0
 WasRead x (stands s) = Unit {0}
-WasRead x (refused v i) = TERMS ≤ v → (st : Statement) × (t : Bytes) × (x ≡ got st t) × (numbersInRange st ≡ true)
+WasRead x (refused v i) = TERMS ≤ v → (st : Statement) × (t : Bytes) × (x ≡ got st t) × (numbers_in_range st ≡ true)
 
-outside : (st : Statement) → numbersInRange st ≡ false → first (written_rules st) ≡ NUMBER
+outside : (st : Statement) → numbers_in_range st ≡ false → first (written_rules st) ≡ NUMBER
 unfolding first written_rules
 outside st e = rw e
 
-judge_read : (capacity : ℕ) (s : paper.State) (st : Statement) (t : Bytes) → (numbersInRange st ≡ true) ⊎ (numbersInRange st ≡ false)
+judge_read : (capacity : ℕ) (s : paper.State) (st : Statement) (t : Bytes) → (numbers_in_range st ≡ true) ⊎ (numbers_in_range st ≡ false)
     → WasRead (got st t) (judge capacity s (first (written_rules st)) st)
 unfolding judge
 judge_read capacity s st t (inl e) =
@@ -203,9 +203,9 @@ item_read capacity s l =
     by_cond (WasRead (statement l)) (ltb line_bytes (length l.content)) (λ _ m. absurd (let z : ⊥ = omega arith in z)) (λ _. go (statement l))
   where
     go : (x : Read Statement) → WasRead x (judge_item capacity s (short_item x))
-    go (got st t) = judge_read capacity s st t (split (numbersInRange st))
+    go (got st t) = judge_read capacity s st t (split (numbers_in_range st))
     go (stuck t) = λ m. absurd (let z : ⊥ = omega arith in z)
 
 pub refused_read : (capacity : ℕ) (s : paper.State) (l : Line) {v i : ℕ} → judge_item capacity s (item_of l) ≡ refused v i → TERMS ≤ v
-    → (st : Statement) × (t : Bytes) × (statement l ≡ got st t) × (numbersInRange st ≡ true)
+    → (st : Statement) × (t : Bytes) × (statement l ≡ got st t) × (numbers_in_range st ≡ true)
 refused_read capacity s l e = subst (WasRead (statement l)) e (item_read capacity s l)

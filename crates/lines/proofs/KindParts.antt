@@ -10,7 +10,7 @@ use Rattle.limits.specs.Verdicts.{FORM}
 use Rattle.words.specs.Parts.{Within}
 use Rattle.words.proofs.Parts.{within_refl, within_trans}
 use Rattle.paper.specs.Grammar.{Bytes, bytes, Reader, next, literal, number, field, pairs, ring_line, input_line, goal_line, lin_line, del_line, ext_line}
-use Rattle.paper.specs.Statement.{modulo, Statement, ring, input, goal, lin, del, ext, fields, within, isIndex, isVariable, in_range}
+use Rattle.paper.specs.Statement.{modulo, Statement, ring, input, goal, lin, del, ext, fields, within, is_index, is_variable, in_range}
 use Rattle.paper.specs.Rules.{Store}
 use Rattle.paper.proofs.Reading.{next_assoc}
 use Rattle.written.specs.Worded.{Holds}
@@ -76,7 +76,7 @@ module _ {k : ℕ} {store : Store} {sum : Sum} {s : Bytes} {words : List ℕ} {r
 
   pub del_line_law : (i : NumberRead) → Head (bytes "del") (within 1 greatest_index) s i → r ≡ closed_of (length s) i.end i.why (Del i.value)
       → KindIs k store del_line s words words sum r
-  unfolding few_in_fields fields any isIndex
+  unfolding few_in_fields fields any is_index
   del_line_law i h q =
       kind_closes del_line within_refl (Del i.value)
       (record {
@@ -101,13 +101,13 @@ module _ {k : ℕ} {store : Store} {sum : Sum} {s : Bytes} {words : List ℕ} {r
 
     pub input_line_law : (i : NumberRead) {why : ℕ} → Head (bytes "in") (within 1 greatest_index) s i → FieldStands s i.end words' p → why ≡ lesser_of i.why p.why
         → r ≡ closed_of (length s) p.end why (Input i.value p.terms) → KindIs k store input_line s words words' sum r
-    unfolding isIndex few_in_fields fields
+    unfolding is_index few_in_fields fields
     input_line_law i h f l q =
         kind_closes input_line (stated_kept kept) (Input i.value p.terms)
         (record {
           value = input h.value f.value;
           taken = behind_got (bytes "in") number _ h.taken (got_then field _ f.taken (got_give (input h.value f.value) f.taken.inside));
-          verdict = verdict_two (isIndex h.value) (in_range f.value) true (few_terms f.value) l h.verdict f.verdict
+          verdict = verdict_two (is_index h.value) (in_range f.value) true (few_terms f.value) l h.verdict f.verdict
               ∙ ap₂ verdict_of (ranged_input h.value f.value) (few_one f.value);
           holds = λ a.
               let b = lesser_accepted i.why p.why (sym l ∙ a) in
@@ -118,7 +118,7 @@ module _ {k : ℕ} {store : Store} {sum : Sum} {s : Bytes} {words : List ℕ} {r
         → Taken number (within 0 (variables - 1)) always (λ n. v.value ≡ n) s i.end v.end v.why → FieldStands s v.end words' p
         → numbers ≡ lesser_of i.why v.why → why ≡ lesser_of numbers p.why
         → r ≡ closed_of (length s) p.end why (Ext i.value v.value p.terms) → KindIs k store ext_line s words words' sum r
-    unfolding isIndex few_in_fields fields
+    unfolding is_index few_in_fields fields
     ext_line_law i v {numbers} h g f l m q =
         let st = ext h.value g.value f.value in
         let ranged = g.verdict ∙ ap (λ (b : Bool). verdict_of b true) (variable_range g.value) in
@@ -126,8 +126,8 @@ module _ {k : ℕ} {store : Store} {sum : Sum} {s : Bytes} {words : List ℕ} {r
         (record {
           value = st;
           taken = behind_got (bytes "ext") number _ h.taken (got_then number _ g.taken (got_then field _ f.taken (got_give st f.taken.inside)));
-          verdict = verdict_two (isIndex h.value && isVariable g.value) (in_range f.value) true (few_terms f.value) m
-              (verdict_two (isIndex h.value) (isVariable g.value) true true l h.verdict ranged) f.verdict
+          verdict = verdict_two (is_index h.value && is_variable g.value) (in_range f.value) true (few_terms f.value) m
+              (verdict_two (is_index h.value) (is_variable g.value) true true l h.verdict ranged) f.verdict
               ∙ ap₂ verdict_of (ranged_ext h.value g.value f.value) (few_one f.value);
           holds = λ a.
               let b = lesser_accepted numbers p.why (sym m ∙ a) in
@@ -140,15 +140,15 @@ pub lin_line_law : {k : ℕ} {store : Store} {s : Bytes} {words words' words'' :
     → Taken pairs (every pair_ranged) (every pair_few) (λ ps. Summed k store ps words'' qs.sum) s p.end qs.end qs.why → Kept words' words''
     → stated ≡ lesser_of i.why p.why → why ≡ lesser_of stated qs.why
     → r ≡ closed_of (length s) qs.end why (Lin i.value p.terms) → KindIs k store lin_line s words words'' qs.sum r
-unfolding isIndex
+unfolding is_index
 lin_line_law i p qs {stated} h f kept g w l m q =
     let st = lin h.value f.value g.value in
     kind_closes lin_line (both_kept kept w) (Lin i.value p.terms)
     (record {
       value = st;
       taken = behind_got (bytes "lin") number _ h.taken (got_then field _ f.taken (got_then pairs _ g.taken (got_give st g.taken.inside)));
-      verdict = verdict_two (isIndex h.value && in_range f.value) (every pair_ranged g.value) (few_terms f.value) (every pair_few g.value) m
-          (verdict_two (isIndex h.value) (in_range f.value) true (few_terms f.value) l h.verdict f.verdict) g.verdict
+      verdict = verdict_two (is_index h.value && in_range f.value) (every pair_ranged g.value) (few_terms f.value) (every pair_few g.value) m
+          (verdict_two (is_index h.value) (in_range f.value) true (few_terms f.value) l h.verdict f.verdict) g.verdict
           ∙ ap₂ verdict_of (ranged_lin h.value f.value g.value) (few_lin h.value f.value g.value);
       holds = λ a.
           let b = lesser_accepted stated qs.why (sym m ∙ a) in

@@ -14,7 +14,7 @@ use Rattle.limits.specs.Verdicts.{ACCEPTED, LONGLINE, FORM}
 use Rattle.words.specs.Parts.{Within}
 use Rattle.words.proofs.Parts.{within_refl}
 use Rattle.paper.specs.Grammar.{Bytes, bytes, Line, Read, got, stuck, Reader, next, give, literal, end, LineKind, whole_line, kinds, begins_alike, one_of, statement}
-use Rattle.paper.specs.Statement.{Statement, numbersInRange}
+use Rattle.paper.specs.Statement.{Statement, numbers_in_range}
 use Rattle.paper.specs.Rules.{Store}
 use Rattle.paper.specs.Answer.{Item, item_of}
 use Rattle.paper.proofs.Reading.{next_assoc}
@@ -64,7 +64,7 @@ closing : (kind : LineKind) (s : Bytes) → whole_line kind s ≡ next (headed_b
 closing kind s = sym (next_assoc (literal kind.0 s) (λ _. kind.1) (λ st t. next (end t) (λ _. give st)))
 
 -- all of it read, up to e
-module _ (kind : LineKind) {s : Bytes} {P : Statement → Type 0} {e why : ℕ} (t : Taken (headed_by kind) numbersInRange few_in_fields P s 0 e why) where
+module _ (kind : LineKind) {s : Bytes} {P : Statement → Type 0} {e why : ℕ} (t : Taken (headed_by kind) numbers_in_range few_in_fields P s 0 e why) where
   short_read : e < length s → whole_line kind s ≡ stuck (drop e s)
   short_read h = closing kind s ∙ (fails_then (headed_by kind) _ t.taken (fails_first end _ (end_not s e h))).reads
 
@@ -79,10 +79,10 @@ module _ {k : ℕ} {store : Store} (kind : LineKind) {s : Bytes} {words words' :
   kind_stops {why} {p} e f =
       record { tells = stops refl (drop p s) (closing kind s ∙ (fails_first (headed_by kind) _ f).reads) (ap (λ (v : ℕ). Refused v) e); kept = kept }
 
-  module _ (read : Said) {e why : ℕ} (t : Taken (headed_by kind) numbersInRange few_in_fields (λ st. Means k store words' sum st read) s 0 e why) where
+  module _ (read : Said) {e why : ℕ} (t : Taken (headed_by kind) numbers_in_range few_in_fields (λ st. Means k store words' sum st read) s 0 e why) where
     stands : length s ≤ e → why ≡ ACCEPTED → KindIs k store kind s words words' sum read
     stands h a =
-        let v = verdict_accepted (numbersInRange t.value) (few_in_fields t.value) (sym t.verdict ∙ a) in
+        let v = verdict_accepted (numbers_in_range t.value) (few_in_fields t.value) (sym t.verdict ∙ a) in
         record { tells = passes refl t.value (drop e s) (all_read kind t h) (as_written kind t h ∙ a) v (t.holds a); kept = kept }
 
     turned : length s ≤ e → (why ≡ ACCEPTED → ⊥) → KindIs k store kind s words words' sum (Refused why)

@@ -15,7 +15,7 @@ use Rattle.words.proofs.Parts.{put_part, put_within}
 use Rattle.terms.specs.Terms.{decode}
 use Rattle.terms.proofs.Decode.{decode_part}
 use Rattle.paper.specs.Grammar.{Bytes, decimal, polynomial, tab, field, pair}
-use Rattle.paper.specs.Statement.{Written, within, isIndex, in_range, tooManyTerms}
+use Rattle.paper.specs.Statement.{Written, within, is_index, in_range, too_many_terms}
 use Rattle.paper.specs.Rules.{first}
 use Rattle.written.specs.Worded.{Holds}
 use Rattle.scratch.specs.Scratch.{factor_at, goal_at}
@@ -41,7 +41,7 @@ module _ (s : Bytes) (at base : ℕ) (words y : List ℕ) (l : base + field_term
 
   module _ (c : FieldIs greatest_magnitude s at (part base (e - base) words) y r) where
     placed : {p : Written} → Holds p r.terms 0 y → Holds p r.terms base x
-    unfolding tooManyTerms
+    unfolding too_many_terms
     placed {p} h =
         let few : r.terms ≤ field_terms = omega (arith, h.terms, ltb-false field_terms (length p) h.short) in
         record {
@@ -60,7 +60,7 @@ module _ (s : Bytes) (at base : ℕ) (words y : List ℕ) (l : base + field_term
         record {
           value = f.value;
           taken = f.taken;
-          verdict = f.verdict ∙ ap₂ (λ (a b : Bool). first ((NUMBER, not a) ∷ (TERMS, b) ∷ [])) (field_fine f.value) (not_not (tooManyTerms f.value));
+          verdict = f.verdict ∙ ap₂ (λ (a b : Bool). first ((NUMBER, not a) ∷ (TERMS, b) ∷ [])) (field_fine f.value) (not_not (too_many_terms f.value));
           holds = λ a. placed (field_holds f a);
         }
 
@@ -95,7 +95,7 @@ module _ (s : Bytes) (at : ℕ) (i : NumberRead) (h : NumberPart decimal (within
 
     pub pair_took : (f.why ≡ FORM → ⊥) → (why : ℕ) → why ≡ lesser_of i.why f.why
         → PairPart s at words words' (record { index = i.value; terms = f.terms; end = f.end; why = why })
-    unfolding pair pair_ranged pair_few isIndex took_map
+    unfolding pair pair_ranged pair_few is_index took_map
     pair_took z why q =
         let t = part_took h n in
         let u = took_map field (λ q. in_range q.factor) pair_few (λ q. Holds q.factor f.terms factor_at words')

@@ -5,7 +5,7 @@ use Rattle.limits.specs.Limits.{field_terms, term_words}
 use Rattle.limits.specs.Verdicts.{ACCEPTED, FORM}
 use Rattle.words.specs.Parts.{Within}
 use Rattle.paper.specs.Grammar.{Bytes, Reader, next, literal, field, pair, pairs}
-use Rattle.paper.specs.Statement.{Written, Pair, isIndex, in_range, tooManyTerms}
+use Rattle.paper.specs.Statement.{Written, Pair, is_index, in_range, too_many_terms}
 use Rattle.paper.specs.Rules.{Store}
 use Rattle.written.specs.Worded.{Holds}
 use Rattle.reader.specs.Places.{Got, Fails}
@@ -22,10 +22,10 @@ abbrev pub always : {A : Type 0} → A → Bool
 always x = true
 
 unfoldable pub few_terms : Written → Bool
-few_terms p = not (tooManyTerms p)
+few_terms p = not (too_many_terms p)
 
 unfoldable pub pair_ranged : Pair → Bool
-pair_ranged q = isIndex q.index && in_range q.factor
+pair_ranged q = is_index q.index && in_range q.factor
 
 unfoldable pub pair_few : Pair → Bool
 pair_few q = few_terms q.factor

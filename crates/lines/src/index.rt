@@ -2,7 +2,7 @@
 ghost use Rattle.std.specs.Prelude.{◌≡◌, true, ◌≤◌};
 ghost use Rattle.limits.specs.Verdicts.{TERMS};
 ghost use Rattle.paper.specs.Grammar.{Bytes, got, statement};
-ghost use Rattle.paper.specs.Statement.{Statement, numbersInRange};
+ghost use Rattle.paper.specs.Statement.{Statement, numbers_in_range};
 ghost use Rattle.paper.specs.Answer.{index_of};
 ghost use Rattle.steps.specs.Items.{index_of_read};
 
@@ -10,7 +10,7 @@ use super::read::headed;
 
 // The index of a line, which stands behind its keyword.
 fn index_of(s: &[u8]) -> u32
-    ensures { (st : Statement) (t : Bytes) → statement (record { content = s.now; ended = true }) ≡ got st t → numbersInRange st ≡ true → result ≡ index_of st }
+    ensures { (st : Statement) (t : Bytes) → statement (record { content = s.now; ended = true }) ≡ got st t → numbers_in_range st ≡ true → result ≡ index_of st }
 {
     if s.len() == 0 {
         return 0;
@@ -27,7 +27,7 @@ fn index_of(s: &[u8]) -> u32
 
 // The index that a line refused with v reports.
 pub fn refused_index(s: &[u8], ended: bool, v: u64) -> u64
-    requires { TERMS ≤ v → (st : Statement) × (t : Bytes) × (statement (record { content = s.now; ended = ended }) ≡ got st t) × (numbersInRange st ≡ true) }
+    requires { TERMS ≤ v → (st : Statement) × (t : Bytes) × (statement (record { content = s.now; ended = ended }) ≡ got st t) × (numbers_in_range st ≡ true) }
     ensures { result ≡ index_of_read v (statement (record { content = s.now; ended = ended })) }
 {
     if v < limits::TERMS {

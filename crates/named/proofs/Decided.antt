@@ -15,13 +15,13 @@ use Rattle.terms.specs.Terms.{decode}
 use Rattle.terms.proofs.Decided.{one_term, one_run}
 use Rattle.written.specs.Worded.{worded_term, worded}
 use Rattle.paper.specs.Grammar.{Bytes, Reader}
-use Rattle.paper.specs.Statement.{TermOf, WrittenOf, renamedTerm, renamedField, within, in_range, tooManyTerms}
+use Rattle.paper.specs.Statement.{TermOf, WrittenOf, renamed_term, renamed_field, within, in_range, too_many_terms}
 use Rattle.paper.specs.Rules.{first}
 use Rattle.paper.specs.Published.{Name, name, monomial, poly}
 use Rattle.paper.specs.Named.{names_of}
 use Rattle.reader.specs.Places.{Got}
 use Rattle.reader.proofs.Decided.{same_end, same_stop, not_both}
-use Rattle.names.specs.Names.{held, numberBy}
+use Rattle.names.specs.Names.{held, number_by}
 use Rattle.names.proofs.Rooms.{length_held}
 use Rattle.named.specs.Reads.{StopsOr, NamesAre, NameAt, NameIs, MonomialAt, MonomialIs, PolyAt, PolyIs}
 use Rattle.named.specs.declared.name.NameRead.{NameRead}
@@ -63,7 +63,7 @@ module _ (plain : Bool) (n : ℕ) (s : Bytes) (at : ℕ) (room r q : Bytes) (v w
 
     pub one_name_number : v.bad ≡ false → v.number ≡ w.number
     one_name_number f =
-        x.number f ∙ ap₂ (λ (ms : List Name) (m : Name). numberBy plain ms m) (one_name_held.holds f) (same_end name s at x.taken y.taken).0
+        x.number f ∙ ap₂ (λ (ms : List Name) (m : Name). number_by plain ms m) (one_name_held.holds f) (same_end name s at x.taken y.taken).0
         ∙ sym (y.number (sym one_name_held.bad ∙ f))
 
 -- ---- `read_monomial`: its term, where its numbers are in range and no name is bad
@@ -90,7 +90,7 @@ module _ (plain : Bool) (n : ℕ) (negative : Bool) (s : Bytes) (at : ℕ) (room
     pub one_monomial_term : length v.term ≡ term_words → length w.term ≡ term_words → Words v.term → Words w.term → v.why ≡ ACCEPTED → v.bad ≡ false → v.term ≡ w.term
     one_monomial_term l m f g a b =
         one_term v.term w.term (l ∙ sym m) (omega arith) f g
-        (x.term a b ∙ ap₂ (λ (ms : List Name) (t : TermOf Name). worded_term (renamedTerm (numberBy plain ms) t)) (one_monomial_held.holds b) same
+        (x.term a b ∙ ap₂ (λ (ms : List Name) (t : TermOf Name). worded_term (renamed_term (number_by plain ms) t)) (one_monomial_held.holds b) same
         ∙ sym (y.term (sym (monomial_alike x y).1 ∙ a) (sym one_monomial_held.bad ∙ b)))
 
 -- ---- `read_poly`: its run, where it is accepted and no name is bad
@@ -99,7 +99,7 @@ module _ (plain : Bool) (n : ℕ) (s : Bytes) (at : ℕ) (room r q : Bytes) (out
   poly_alike x y = let b = same_end poly s at x.taken y.taken in (b.1, x.verdict ∙ ap verdict_of b.0 ∙ sym y.verdict)
     where
       verdict_of : WrittenOf Name → ℕ
-      verdict_of p = first ((NUMBER, not (in_range (renamedField (λ n. 0) p))) ∷ (TERMS, tooManyTerms (renamedField (λ n. 0) p)) ∷ [])
+      verdict_of p = first ((NUMBER, not (in_range (renamed_field (λ n. 0) p))) ∷ (TERMS, too_many_terms (renamed_field (λ n. 0) p)) ∷ [])
 
   pub one_poly : PolyIs plain n s at room r out out₁ v → PolyIs plain n s at room q out out₂ w → (v.end ≡ w.end) × (v.why ≡ w.why)
   one_poly x y = ⊎_elim (λ a. a) (λ b. poly_alike b.0 b.1) (stops_alike poly s at (λ a. (a.value, a.taken)) (λ b. (b.value, b.taken)) x.said y.said)
@@ -117,5 +117,5 @@ module _ (plain : Bool) (n : ℕ) (s : Bytes) (at : ℕ) (room r q : Bytes) (out
     pub one_poly_run : length out₁ ≡ length out₂ → Words out₁ → Words out₂ → v.why ≡ ACCEPTED → v.bad ≡ false → take (v.terms * term_words) out₁ ≡ take (v.terms * term_words) out₂
     one_poly_run l f g a b =
         one_run v.terms out₁ out₂ l f g
-        (x.run a b ∙ ap₂ (λ (ms : List Name) (p : WrittenOf Name). worded (renamedField (numberBy plain ms) p)) (one_poly_held.holds b) written
+        (x.run a b ∙ ap₂ (λ (ms : List Name) (p : WrittenOf Name). worded (renamed_field (number_by plain ms) p)) (one_poly_held.holds b) written
         ∙ sym (y.run (sym (poly_alike x y).1 ∙ a) (sym one_poly_held.bad ∙ b)) ∙ ap (λ (k : ℕ). decode k out₂) (sym one_poly_terms))

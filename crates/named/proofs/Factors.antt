@@ -19,7 +19,7 @@ use Rattle.algebra.proofs.Unions.{or_assoc}
 use Rattle.words.specs.Parts.{part}
 use Rattle.words.specs.Words.{number_of}
 use Rattle.paper.specs.Grammar.{Bytes, Read, Reader, next, ◌>>◌, give, is_digit}
-use Rattle.paper.specs.Statement.{within, setOf}
+use Rattle.paper.specs.Statement.{within, set_of}
 use Rattle.paper.specs.Published.{Name, is_letter, spaces, token, constant, name_rest, name, more_names}
 use Rattle.paper.proofs.Names.{never}
 use Rattle.paper.proofs.PublishedReading.{name_first, name_not, name_end, constant_read, takes_factor}
@@ -91,11 +91,11 @@ next_name = do spaces; name
 abbrev pub NamesTo : Bool → ℕ → Bytes → ℕ → ℕ → Bytes → Bytes → List ℕ → ℕ → Bool → ℕ → Type 0
 NamesTo plain n s at begin room room' set names bad i =
     ItemsUpTo (code "*") next_name
-    (λ ns. (bad ≡ false → number_of set ≡ bit_or begin (setOf (map (number_in plain names room') ns))) × NamesAre plain n ns room room' names bad) s at i
+    (λ ns. (bad ≡ false → number_of set ≡ bit_or begin (set_of (map (number_in plain names room') ns))) × NamesAre plain n ns room room' names bad) s at i
 
 pub names_start : (plain : Bool) (n : ℕ) (s : Bytes) (at : ℕ) (room : Bytes) (set : List ℕ) → at ≤ length s → Holding n room
     → NamesTo plain n s at (number_of set) room room set n false at
-unfolding setOf
+unfolding set_of
 names_start plain n s at room set l h = passed_none (code "*") next_name s at l ((λ _. sym (or_zero_r (number_of set))), names_none plain n room h)
 
 module _ (plain : Bool) (n : ℕ) (s : Bytes) (at begin : ℕ) (room mid : Bytes) (set : List ℕ) (names : ℕ) (bad : Bool) (i : ℕ)
@@ -109,17 +109,17 @@ module _ (plain : Bool) (n : ℕ) (s : Bytes) (at begin : ℕ) (room mid : Bytes
       passed_more (code "*") next_name s at i p (stands s i (code "*") here).0 (stands s i (code "*") here).1 takes_factor (got_then spaces _ g h.taken)
       (λ ns k. ((λ e. with_one ns (or_none_left bad v.bad e) (or_none_right bad v.bad e) (k.0 (or_none_left bad v.bad e)) k.1), names_then k.1 h.names))
     where
-      with_one : (ns : List Name) → bad ≡ false → v.bad ≡ false → number_of set ≡ bit_or begin (setOf (map (number_in plain names mid) ns)) → NamesAre plain n ns room mid names bad
-          → number_of set' ≡ bit_or begin (setOf (map (number_in plain v.names room') (ns ++ (h.value ∷ []))))
+      with_one : (ns : List Name) → bad ≡ false → v.bad ≡ false → number_of set ≡ bit_or begin (set_of (map (number_in plain names mid) ns)) → NamesAre plain n ns room mid names bad
+          → number_of set' ≡ bit_or begin (set_of (map (number_in plain v.names room') (ns ++ (h.value ∷ []))))
       with_one ns b c e k =
           let f = number_in plain v.names room' in
           let old : map f ns ≡ map (number_in plain names mid) ns = numbers_stay k h.names b c in
-          let more : setOf (map f (ns ++ (h.value ∷ []))) ≡ bit_or (2 ^ v.number) (setOf (map (number_in plain names mid) ns))
-          = ap setOf (map_append f ns (h.value ∷ [])) ∙ set_of_more (map f ns) (f h.value) ∙ ap₂ (λ (x : ℕ) (l : List ℕ). bit_or (2 ^ x) (setOf l)) (sym (h.number c)) old in
+          let more : set_of (map f (ns ++ (h.value ∷ []))) ≡ bit_or (2 ^ v.number) (set_of (map (number_in plain names mid) ns))
+          = ap set_of (map_append f ns (h.value ∷ [])) ∙ set_of_more (map f ns) (f h.value) ∙ ap₂ (λ (x : ℕ) (l : List ℕ). bit_or (2 ^ x) (set_of l)) (sym (h.number c)) old in
           q ∙ ap (bit_or (2 ^ v.number)) e
-          ∙ sym (or_assoc (2 ^ v.number) begin (setOf (map (number_in plain names mid) ns)))
-          ∙ ap (λ (x : ℕ). bit_or x (setOf (map (number_in plain names mid) ns))) (or_comm (2 ^ v.number) begin)
-          ∙ or_assoc begin (2 ^ v.number) (setOf (map (number_in plain names mid) ns))
+          ∙ sym (or_assoc (2 ^ v.number) begin (set_of (map (number_in plain names mid) ns)))
+          ∙ ap (λ (x : ℕ). bit_or x (set_of (map (number_in plain names mid) ns))) (or_comm (2 ^ v.number) begin)
+          ∙ or_assoc begin (2 ^ v.number) (set_of (map (number_in plain names mid) ns))
           ∙ ap (bit_or begin) (sym more)
 
 -- ---- a constant as a coefficient

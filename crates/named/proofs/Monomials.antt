@@ -20,7 +20,7 @@ use Rattle.words.specs.Words.{number_of}
 use Rattle.terms.specs.Terms.{term_of}
 use Rattle.written.specs.Worded.{signed_word, worded_term}
 use Rattle.paper.specs.Grammar.{Bytes, got, Reader, ◌>>=◌, give, is_digit}
-use Rattle.paper.specs.Statement.{TermOf, within, setOf, renamedTerm}
+use Rattle.paper.specs.Statement.{TermOf, within, set_of, renamed_term}
 use Rattle.paper.specs.Published.{Name, spaces, constant, name, more_names, monomial, minus}
 use Rattle.paper.proofs.Reading.{each_none}
 use Rattle.paper.proofs.Pieces.{each_empty}
@@ -95,14 +95,14 @@ module _ (negative : Bool) (s : Bytes) (at : ℕ) (d : is_at is_digit s at ≡ t
   pub constant_took : (plain : Bool) (n : ℕ) (room room' : Bytes) (vs : NamesRead) → NamesAt plain n s c.end (number_of (replicate set_words 0)) room room' vs → (coef : ℕ) → coef ≡ signed_word negative c.value
       → (words : List ℕ) → term_of words ≡ record { set = number_of vs.set; coef = coef }
       → MonomialIs plain n negative s at room room' (record { term = words; end = vs.end; why = c.why; zero = c.zero && eqb vs.end c.end; names = vs.names; bad = vs.bad })
-  unfolding with_constant number_of worded_term renamedTerm
+  unfolding with_constant number_of worded_term renamed_term
   constant_took plain n room room' vs k coef ec words q = inr (record {
     value = record { negative = negative; magnitude = h.value; variables = k.value };
     taken = got_as (monomial negative) with_constant by_constant (got_then constant _ h.taken (got_then more_names _ k.taken (got_give _ k.taken.inside)));
     sign = refl;
     verdict = h.verdict;
     zero = ap₂ ◌&&◌ h.zero (none_taken s c.end vs.end k.value k.taken);
-    term = λ a b. q ∙ same_term (k.set b ∙ or_zero_l (setOf (map (number_in plain vs.names room') k.value))) (ec ∙ ap (signed_word negative) (h.word a));
+    term = λ a b. q ∙ same_term (k.set b ∙ or_zero_l (set_of (map (number_in plain vs.names room') k.value))) (ec ∙ ap (signed_word negative) (h.word a));
     names = k.names;
   })
 
@@ -128,7 +128,7 @@ module _ (negative : Bool) (s : Bytes) (at : ℕ) (d : is_at is_digit s at ≡ f
         → (vs : NamesRead) → NamesAt plain v.names s v.end (number_of one) mid room' vs → (coef : ℕ) → coef ≡ signed_word negative 1
         → (words : List ℕ) → term_of words ≡ record { set = number_of vs.set; coef = coef }
         → MonomialIs plain n negative s at room room' (record { term = words; end = vs.end; why = ACCEPTED; zero = false; names = vs.names; bad = v.bad || vs.bad })
-    unfolding of_names number_of worded_term renamedTerm setOf
+    unfolding of_names number_of worded_term renamed_term set_of
     names_took room' one eo vs k coef ec words q = inr (record {
       value = record { negative = negative; magnitude = 1; variables = h.value ∷ k.value };
       taken = got_as (monomial negative) of_names by_names (got_then name _ h.taken (got_then more_names _ k.taken (got_give _ k.taken.inside)));
@@ -140,6 +140,6 @@ module _ (negative : Bool) (s : Bytes) (at : ℕ) (d : is_at is_digit s at ≡ f
           let y = or_none_right v.bad vs.bad b in
           let number : v.number ≡ number_in plain vs.names room' h.value = h.number x ∙ sym (number_stays h.names k.names x y h.value (in_first h.value [])) in
           let first : number_of one ≡ 2 ^ number_in plain vs.names room' h.value = eo ∙ or_zero_r (2 ^ v.number) ∙ ap (λ (i : ℕ). 2 ^ i) number in
-          q ∙ same_term (k.set y ∙ ap (λ (x : ℕ). bit_or x (setOf (map (number_in plain vs.names room') k.value))) first) ec;
+          q ∙ same_term (k.set y ∙ ap (λ (x : ℕ). bit_or x (set_of (map (number_in plain vs.names room') k.value))) first) ec;
       names = names_then h.names k.names;
     })

@@ -12,30 +12,30 @@ use Rattle.ground.specs.Lists.{any, gather}
 use Rattle.ground.proofs.Tests.{split, cond_yes, cond_no, or_none_left, or_none_right}
 use Rattle.limits.specs.Limits.{name_bytes, variables}
 use Rattle.paper.specs.Grammar.{Bytes}
-use Rattle.paper.specs.Statement.{TermOf, WrittenOf, PairOf, Written, ring, input, goal, lin, del, ext, isVariable, renamedTerm, renamedField, renamedPair, renamed}
+use Rattle.paper.specs.Statement.{TermOf, WrittenOf, PairOf, Written, ring, input, goal, lin, del, ext, is_variable, renamed_term, renamed_field, renamed_pair, renamed}
 use Rattle.paper.specs.Published.{Name, Named}
 use Rattle.paper.specs.Named.{names_of, names_in, is_plain, same_name, place_in, with_names}
-use Rattle.paper.proofs.Names.{name-same, isIn, in-append, place_out, place-append, with-old, with-new, with_append, place_kept, name-comes}
+use Rattle.paper.proofs.Names.{name_same, is_in, in_append, place_out, place_append, with_old, with_new, with_append, place_kept, name_comes}
 use Rattle.paper.proofs.PlainSpelled.{plain_variable}
-use Rattle.names.specs.Names.{held, Holding, numberBy, badBy, namesWith, NumberedIs}
+use Rattle.names.specs.Names.{held, Holding, number_by, bad_by, names_with, NumberedIs}
 use Rattle.names.specs.declared.Numbered.{Numbered}
 use Rattle.named.specs.Reads.{NamesAre, number_in}
 
 -- ---- what f and g give alike for every name of some
-pub in_first : (m : Name) (ns : List Name) → isIn (m ∷ ns) m ≡ true
+pub in_first : (m : Name) (ns : List Name) → is_in (m ∷ ns) m ≡ true
 unfolding any
-in_first m ns = ap (λ (b : Bool). b || isIn ns m) (name-same m m refl)
+in_first m ns = ap (λ (b : Bool). b || is_in ns m) (name_same m m refl)
 
 or_right : (a b : Bool) → b ≡ true → (a || b) ≡ true
 or_right true b e = refl
 or_right false b e = e
 
-in_more : (m : Name) (ns : List Name) (n : Name) → isIn ns n ≡ true → isIn (m ∷ ns) n ≡ true
+in_more : (m : Name) (ns : List Name) (n : Name) → is_in ns n ≡ true → is_in (m ∷ ns) n ≡ true
 unfolding any
-in_more m ns n e = or_right (same_name m n) (isIn ns n) e
+in_more m ns n e = or_right (same_name m n) (is_in ns n) e
 
 abbrev pub Alike : {B : Type 0} → (Name → B) → (Name → B) → List Name → Type 0
-Alike f g ns = (n : Name) → isIn ns n ≡ true → f n ≡ g n
+Alike f g ns = (n : Name) → is_in ns n ≡ true → f n ≡ g n
 
 map_alike : {B : Type 0} (f g : Name → B) (ns : List Name) → Alike f g ns → map f ns ≡ map g ns
 map_alike f g [] h = refl
@@ -60,23 +60,23 @@ any_append f (n ∷ ns) os = go (f n) (any_append f ns os)
 
 -- the names of both parts of a row
 alike_left : {B : Type 0} (f g : Name → B) (ns os : List Name) → Alike f g (ns ++ os) → Alike f g ns
-alike_left f g ns os h n e = h n (in-append ns os n ∙ ap (λ (b : Bool). b || isIn os n) e)
+alike_left f g ns os h n e = h n (in_append ns os n ∙ ap (λ (b : Bool). b || is_in os n) e)
 
 alike_right : {B : Type 0} (f g : Name → B) (ns os : List Name) → Alike f g (ns ++ os) → Alike f g os
-alike_right f g ns os h n e = h n (in-append ns os n ∙ or_right (isIn ns n) (isIn os n) e)
+alike_right f g ns os h n e = h n (in_append ns os n ∙ or_right (is_in ns n) (is_in os n) e)
 
-term_alike : (f g : Name → ℕ) (t : TermOf Name) → Alike f g t.variables → renamedTerm f t ≡ renamedTerm g t
-unfolding renamedTerm
+term_alike : (f g : Name → ℕ) (t : TermOf Name) → Alike f g t.variables → renamed_term f t ≡ renamed_term g t
+unfolding renamed_term
 term_alike f g t h = λ i. record { negative = t.negative; magnitude = t.magnitude; variables = map_alike f g t.variables h i }
 
-field_alike : (f g : Name → ℕ) (p : WrittenOf Name) → Alike f g (names_of p) → renamedField f p ≡ renamedField g p
-unfolding renamedField names_of gather
+field_alike : (f g : Name → ℕ) (p : WrittenOf Name) → Alike f g (names_of p) → renamed_field f p ≡ renamed_field g p
+unfolding renamed_field names_of gather
 field_alike f g [] h = refl
 field_alike f g (t ∷ p) h =
     ap₂ ◌∷◌ (term_alike f g t (alike_left f g t.variables (names_of p) h)) (field_alike f g p (alike_right f g t.variables (names_of p) h))
 
-pairs_alike : (f g : Name → ℕ) (qs : List (PairOf Name)) → Alike f g (gather (λ q. names_of q.factor) qs) → map (renamedPair f) qs ≡ map (renamedPair g) qs
-unfolding renamedPair gather
+pairs_alike : (f g : Name → ℕ) (qs : List (PairOf Name)) → Alike f g (gather (λ q. names_of q.factor) qs) → map (renamed_pair f) qs ≡ map (renamed_pair g) qs
+unfolding renamed_pair gather
 pairs_alike f g [] h = refl
 pairs_alike f g (q ∷ qs) h =
     let ns : List Name = names_of q.factor in
@@ -100,33 +100,33 @@ place_self : (ms : List Name) (n : Name) → place_in (with_names ms (n ∷ []))
 unfolding place_in
 place_self ms n =
     ⊎_elim
-    (λ e. ap (λ (l : List Name). place_in l n) (with-old ms n e))
-    (λ e. ap (λ (l : List Name). place_in l n) (with-new ms n e) ∙ place-append ms (n ∷ []) n ∙ cond_no (isIn ms n) (place_in ms n) (length ms + place_in (n ∷ []) n) e
-    ∙ omega (arith, place_out ms n e, cond_yes {A = ℕ} (same_name n n) 0 1 (name-same n n refl)))
-    (split (isIn ms n))
+    (λ e. ap (λ (l : List Name). place_in l n) (with_old ms n e))
+    (λ e. ap (λ (l : List Name). place_in l n) (with_new ms n e) ∙ place_append ms (n ∷ []) n ∙ cond_no (is_in ms n) (place_in ms n) (length ms + place_in (n ∷ []) n) e
+    ∙ omega (arith, place_out ms n e, cond_yes {A = ℕ} (same_name n n) 0 1 (name_same n n refl)))
+    (split (is_in ms n))
 
-number_self : (plain : Bool) (ms : List Name) (n : Name) → numberBy plain (namesWith plain ms (n ∷ [])) n ≡ numberBy plain ms n
+number_self : (plain : Bool) (ms : List Name) (n : Name) → number_by plain (names_with plain ms (n ∷ [])) n ≡ number_by plain ms n
 number_self true ms n = refl
 number_self false ms n = place_self ms n
 
-bad_self : (plain : Bool) (ms : List Name) (n : Name) → badBy plain (namesWith plain ms (n ∷ [])) n ≡ badBy plain ms n
+bad_self : (plain : Bool) (ms : List Name) (n : Name) → bad_by plain (names_with plain ms (n ∷ [])) n ≡ bad_by plain ms n
 bad_self true ms n = refl
-bad_self false ms n = ap (λ (i : ℕ). ltb name_bytes (length n) || not (isVariable i)) (place_self ms n)
+bad_self false ms n = ap (λ (i : ℕ). ltb name_bytes (length n) || not (is_variable i)) (place_self ms n)
 
 -- ---- names that come behind ns change nothing of them
-pub numbers_with : (plain : Bool) (ms ns os : List Name) → Alike (numberBy plain (namesWith plain (namesWith plain ms ns) os)) (numberBy plain (namesWith plain ms ns)) ns
+pub numbers_with : (plain : Bool) (ms ns os : List Name) → Alike (number_by plain (names_with plain (names_with plain ms ns) os)) (number_by plain (names_with plain ms ns)) ns
 numbers_with true ms ns os n e = refl
-numbers_with false ms ns os n e = place_kept (with_names ms ns) os n (name-comes ms ns n e)
+numbers_with false ms ns os n e = place_kept (with_names ms ns) os n (name_comes ms ns n e)
 
-pub bad_with : (plain : Bool) (ms ns os : List Name) → Alike (badBy plain (namesWith plain (namesWith plain ms ns) os)) (badBy plain (namesWith plain ms ns)) ns
+pub bad_with : (plain : Bool) (ms ns os : List Name) → Alike (bad_by plain (names_with plain (names_with plain ms ns) os)) (bad_by plain (names_with plain ms ns)) ns
 bad_with true ms ns os n e = refl
-bad_with false ms ns os n e = ap (λ (i : ℕ). ltb name_bytes (length n) || not (isVariable i)) (place_kept (with_names ms ns) os n (name-comes ms ns n e))
+bad_with false ms ns os n e = ap (λ (i : ℕ). ltb name_bytes (length n) || not (is_variable i)) (place_kept (with_names ms ns) os n (name_comes ms ns n e))
 
-with_then : (plain : Bool) (ms ns os : List Name) → namesWith plain ms (ns ++ os) ≡ namesWith plain (namesWith plain ms ns) os
+with_then : (plain : Bool) (ms ns os : List Name) → names_with plain ms (ns ++ os) ≡ names_with plain (names_with plain ms ns) os
 with_then true ms ns os = refl
 with_then false ms ns os = with_append ms ns os
 
-with_none : (plain : Bool) (ms : List Name) → ms ≡ namesWith plain ms []
+with_none : (plain : Bool) (ms : List Name) → ms ≡ names_with plain ms []
 unfolding with_names
 with_none true ms = refl
 with_none false ms = refl
@@ -139,36 +139,36 @@ names_none plain n room h = record { some = refl; holds = λ _. with_none plain 
 module _ (plain : Bool) (n : ℕ) (s : Name) (room room' : Bytes) (r : Numbered) (h : NumberedIs plain n s room room' r) where
   pub names_one : NamesAre plain n (s ∷ []) room room' r.names r.bad
   unfolding any
-  names_one = record { some = h.bad ∙ sym (bad_self plain (held n room) s) ∙ alone (badBy plain (namesWith plain (held n room) (s ∷ [])) s); holds = h.holds; holding = h.holding }
+  names_one = record { some = h.bad ∙ sym (bad_self plain (held n room) s) ∙ alone (bad_by plain (names_with plain (held n room) (s ∷ [])) s); holds = h.holds; holding = h.holding }
     where
       alone : (b : Bool) → b ≡ (b || false)
       alone true = refl
       alone false = refl
 
   pub number_one : r.bad ≡ false → r.number ≡ number_in plain r.names room' s
-  number_one e = h.number e ∙ sym (number_self plain (held n room) s) ∙ ap (λ (ms : List Name). numberBy plain ms s) (sym (h.holds e))
+  number_one e = h.number e ∙ sym (number_self plain (held n room) s) ∙ ap (λ (ms : List Name). number_by plain ms s) (sym (h.holds e))
 
-pub number_variable : (plain : Bool) (ms : List Name) (s : Name) → badBy plain ms s ≡ false → isVariable (numberBy plain ms s) ≡ true
+pub number_variable : (plain : Bool) (ms : List Name) (s : Name) → bad_by plain ms s ≡ false → is_variable (number_by plain ms s) ≡ true
 number_variable true ms s e = plain_variable s (not-false (is_plain s) e)
-number_variable false ms s e = not-false (isVariable (place_in ms s)) (or_none_right (ltb name_bytes (length s)) (not (isVariable (place_in ms s))) e)
+number_variable false ms s e = not-false (is_variable (place_in ms s)) (or_none_right (ltb name_bytes (length s)) (not (is_variable (place_in ms s))) e)
 
 -- a name's number, 0 for a bad one, is a variable
 pub number_fits : (plain : Bool) (n : ℕ) (s : Name) (room room' : Bytes) (r : Numbered) → NumberedIs plain n s room room' r → cond r.bad 0 r.number < variables
-unfolding isVariable
+unfolding is_variable
 number_fits plain n s room room' r h = go r.bad refl
   where
     go : (b : Bool) → r.bad ≡ b → cond b 0 r.number < variables
     go true e = omega arith
-    go false e = omega (arith, h.number e, ltb-true (numberBy plain (held n room) s) variables (number_variable plain (held n room) s (sym h.bad ∙ e)))
+    go false e = omega (arith, h.number e, ltb-true (number_by plain (held n room) s) variables (number_variable plain (held n room) s (sym h.bad ∙ e)))
 
 module _ {plain : Bool} {n m k : ℕ} {ns os : List Name} {room x room' : Bytes} {b c : Bool} (p : NamesAre plain n ns room x m b) (q : NamesAre plain m os x room' k c) where
   ms : List Name
   ms = held n room
 
   -- held behind both
-  both : b ≡ false → namesWith plain (held m x) os ≡ namesWith plain ms (ns ++ os)
+  both : b ≡ false → names_with plain (held m x) os ≡ names_with plain ms (ns ++ os)
   unfolding ms
-  both e = ap (λ (l : List Name). namesWith plain l os) (p.holds e) ∙ sym (with_then plain ms ns os)
+  both e = ap (λ (l : List Name). names_with plain l os) (p.holds e) ∙ sym (with_then plain ms ns os)
 
   pub names_then : NamesAre plain n (ns ++ os) room room' k (b || c)
   unfolding ms
@@ -179,34 +179,34 @@ module _ {plain : Bool} {n m k : ℕ} {ns os : List Name} {room x room' : Bytes}
   }
     where
       bad : Name → Bool
-      bad = badBy plain (namesWith plain ms (ns ++ os))
+      bad = bad_by plain (names_with plain ms (ns ++ os))
 
       old : b ≡ any bad ns
-      old = p.some ∙ sym (ap (λ (l : List Name). any (badBy plain l) ns) (with_then plain ms ns os) ∙ any_alike _ _ ns (bad_with plain ms ns os))
+      old = p.some ∙ sym (ap (λ (l : List Name). any (bad_by plain l) ns) (with_then plain ms ns os) ∙ any_alike _ _ ns (bad_with plain ms ns os))
 
       go : (t : Bool) → b ≡ t → (t || any bad os) ≡ (t || c)
       go true e = refl
-      go false e = sym (q.some ∙ ap (λ (l : List Name). any (badBy plain l) os) (both e))
+      go false e = sym (q.some ∙ ap (λ (l : List Name). any (bad_by plain l) os) (both e))
 
   -- numbers stay
   pub number_stays : b ≡ false → c ≡ false → Alike (number_in plain k room') (number_in plain m x) ns
   unfolding ms
   number_stays e f s i =
-      ap (λ (l : List Name). numberBy plain l s) (q.holds f ∙ both e ∙ with_then plain ms ns os) ∙ numbers_with plain ms ns os s i
-      ∙ ap (λ (l : List Name). numberBy plain l s) (sym (p.holds e))
+      ap (λ (l : List Name). number_by plain l s) (q.holds f ∙ both e ∙ with_then plain ms ns os) ∙ numbers_with plain ms ns os s i
+      ∙ ap (λ (l : List Name). number_by plain l s) (sym (p.holds e))
 
   pub numbers_stay : b ≡ false → c ≡ false → map (number_in plain k room') ns ≡ map (number_in plain m x) ns
   numbers_stay e f = map_alike _ _ ns (number_stays e f)
 
 module _ {plain : Bool} {n m k : ℕ} {os : List Name} {room x room' : Bytes} {b c : Bool} where
   pub term_stays : (t : TermOf Name) → NamesAre plain n t.variables room x m b → NamesAre plain m os x room' k c → b ≡ false → c ≡ false
-      → renamedTerm (number_in plain k room') t ≡ renamedTerm (number_in plain m x) t
+      → renamed_term (number_in plain k room') t ≡ renamed_term (number_in plain m x) t
   term_stays t p q e f = term_alike _ _ t (number_stays p q e f)
 
   pub field_stays : (w : WrittenOf Name) → NamesAre plain n (names_of w) room x m b → NamesAre plain m os x room' k c → b ≡ false → c ≡ false
-      → renamedField (number_in plain k room') w ≡ renamedField (number_in plain m x) w
+      → renamed_field (number_in plain k room') w ≡ renamed_field (number_in plain m x) w
   field_stays w p q e f = field_alike _ _ w (number_stays p q e f)
 
   pub pairs_stay : (qs : List (PairOf Name)) → NamesAre plain n (gather (λ q. names_of q.factor) qs) room x m b → NamesAre plain m os x room' k c → b ≡ false → c ≡ false
-      → map (renamedPair (number_in plain k room')) qs ≡ map (renamedPair (number_in plain m x)) qs
+      → map (renamed_pair (number_in plain k room')) qs ≡ map (renamed_pair (number_in plain m x)) qs
   pairs_stay qs p q e f = pairs_alike _ _ qs (number_stays p q e f)

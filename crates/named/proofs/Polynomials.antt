@@ -19,7 +19,7 @@ use Rattle.words.proofs.Parts.{within_refl, within_trans, within_wider}
 use Rattle.terms.specs.Terms.{decode}
 use Rattle.written.specs.Worded.{worded_term, worded}
 use Rattle.paper.specs.Grammar.{Bytes, got, stuck, next, as_written}
-use Rattle.paper.specs.Statement.{TermOf, WrittenOf, Written, renamedTerm, renamedField, within, isVariable, isTerm, in_range, tooManyTerms}
+use Rattle.paper.specs.Statement.{TermOf, WrittenOf, Written, renamed_term, renamed_field, within, is_variable, is_term, in_range, too_many_terms}
 use Rattle.paper.specs.Rules.{first}
 use Rattle.paper.specs.Published.{Name, spaces, minus, monomial, more_monomials, poly}
 use Rattle.paper.specs.Named.{names_of}
@@ -48,34 +48,34 @@ alone : (b : Bool) → (b && true) ≡ b
 alone true = refl
 alone false = refl
 
-zeros : (ns : List Name) → every isVariable (map unnumbered ns) ≡ true
-unfolding every isVariable
+zeros : (ns : List Name) → every is_variable (map unnumbered ns) ≡ true
+unfolding every is_variable
 zeros [] = refl
 zeros (n ∷ ns) = zeros ns
 
-term_range : (t : TermOf Name) → isTerm (renamedTerm unnumbered t) ≡ within 1 greatest_magnitude t.magnitude
-unfolding isTerm renamedTerm
+term_range : (t : TermOf Name) → is_term (renamed_term unnumbered t) ≡ within 1 greatest_magnitude t.magnitude
+unfolding is_term renamed_term
 term_range t = ap (λ (b : Bool). within 1 greatest_magnitude t.magnitude && b) (zeros t.variables) ∙ alone (within 1 greatest_magnitude t.magnitude)
 
-range_append : (ms : WrittenOf Name) (t : TermOf Name) → (in_range (renamedField unnumbered ms) && within 1 greatest_magnitude t.magnitude) ≡ in_range (renamedField unnumbered (ms ++ (t ∷ [])))
-unfolding in_range renamedField every
+range_append : (ms : WrittenOf Name) (t : TermOf Name) → (in_range (renamed_field unnumbered ms) && within 1 greatest_magnitude t.magnitude) ≡ in_range (renamed_field unnumbered (ms ++ (t ∷ [])))
+unfolding in_range renamed_field every
 range_append ms t =
-    sym (ap (every isTerm) (map_append (renamedTerm unnumbered) ms (t ∷ []))
-    ∙ every_append isTerm (map (renamedTerm unnumbered) ms) (renamedTerm unnumbered t ∷ [])
-    ∙ ap (λ (b : Bool). every isTerm (map (renamedTerm unnumbered) ms) && b) (alone (isTerm (renamedTerm unnumbered t)) ∙ term_range t))
+    sym (ap (every is_term) (map_append (renamed_term unnumbered) ms (t ∷ []))
+    ∙ every_append is_term (map (renamed_term unnumbered) ms) (renamed_term unnumbered t ∷ [])
+    ∙ ap (λ (b : Bool). every is_term (map (renamed_term unnumbered) ms) && b) (alone (is_term (renamed_term unnumbered t)) ∙ term_range t))
 
 -- ---- monomials behind a first
 pub rest_none : (plain : Bool) (n : ℕ) (room : Bytes) (out : List ℕ) → Holding n room → MonomialsOf plain n room room out out 1 ACCEPTED n false []
-unfolding in_range renamedField every worded names_of gather
+unfolding in_range renamed_field every worded names_of gather
 rest_none plain n room out h = record { verdict = refl; count = refl; run = λ a b l. sym (append-nil (decode 1 out)); named = names_none plain n room h }
 
 module _ {plain : Bool} {n : ℕ} {room x room' : Bytes} {out mid out' : List ℕ} {terms why names : ℕ} {bad : Bool} {ms : WrittenOf Name} (p : MonomialsOf plain n room x out mid terms why names bad ms)
     {negative : Bool} {s : Bytes} {at : ℕ} {m : MonomialRead} (h : MonomialAt plain names negative s at x room' m) (put : PutBehind terms m.why m.term mid out') where
   rest_more : (why' : ℕ) → why' ≡ first_of why m.why → MonomialsOf plain n room room' out out' (terms + 1) why' m.names (bad || m.bad) (ms ++ (h.value ∷ []))
-  unfolding renamedField worded names_of
+  unfolding renamed_field worded names_of
   rest_more why' ew = record {
     verdict =
-        ew ∙ ap₂ first_of p.verdict h.verdict ∙ verdict_then (in_range (renamedField unnumbered ms)) (within 1 greatest_magnitude h.value.magnitude)
+        ew ∙ ap₂ first_of p.verdict h.verdict ∙ verdict_then (in_range (renamed_field unnumbered ms)) (within 1 greatest_magnitude h.value.magnitude)
         ∙ ap (λ (b : Bool). cond b ACCEPTED NUMBER) (range_append ms h.value);
     count = omega (arith, p.count, length-append ms (h.value ∷ []));
     run = λ a b l.
@@ -83,11 +83,11 @@ module _ {plain : Bool} {n : ℕ} {room x room' : Bytes} {out mid out' : List �
         let d = or_none_left bad m.bad b in
         let e = or_none_right bad m.bad b in
         let f = number_in plain m.names room' in
-        let old : renamedField (number_in plain names x) ms ≡ renamedField f ms = sym (field_stays ms p.named h.names d e) in
+        let old : renamed_field (number_in plain names x) ms ≡ renamed_field f ms = sym (field_stays ms p.named h.names d e) in
         put.run c.1 l
         ∙ ap₂ (λ (q : Poly) (u : Term). q ++ (u ∷ [])) (p.run c.0 d (omega arith) ∙ ap (λ (w : Written). decode 1 out ++ worded w) old) (h.term c.1 e)
-        ∙ append_assoc (decode 1 out) (worded (renamedField f ms)) (worded_term (renamedTerm f h.value) ∷ [])
-        ∙ ap (λ (q : Poly). decode 1 out ++ q) (sym (ap worded (map_append (renamedTerm f) ms (h.value ∷ [])) ∙ worded_append (renamedField f ms) (renamedTerm f h.value ∷ [])));
+        ∙ append_assoc (decode 1 out) (worded (renamed_field f ms)) (worded_term (renamed_term f h.value) ∷ [])
+        ∙ ap (λ (q : Poly). decode 1 out ++ q) (sym (ap worded (map_append (renamed_term f) ms (h.value ∷ [])) ∙ worded_append (renamed_field f ms) (renamed_term f h.value ∷ [])));
     named = rw (gather_last (λ t. t.variables) ms h.value) (names_then p.named h.names);
   }
 
@@ -119,7 +119,7 @@ module _ (s : Bytes) (i : ℕ) (plus dash : Bool) (ep : plus ≡ stands_at s i 4
           monomials_stuck s i h.0 h.1 (drop p s) (fails_then spaces _ g (subst (λ (b : Bool). Fails (monomial b) s j p) (is_dash q) f)).reads
 
 pub rest_form : {plain : Bool} {n : ℕ} {s : Bytes} {at : ℕ} {room room' : Bytes} {out out' : List ℕ} {r : MonomialsRead} → MonomialsAt plain n s at room room' out out' r → r.why ≡ FORM → ⊥
-rest_form h f = verdict_of_law (in_range (renamedField unnumbered h.value)) (sym h.holds.verdict ∙ f)
+rest_form h f = verdict_of_law (in_range (renamed_field unnumbered h.value)) (sym h.holds.verdict ∙ f)
 
 -- monomials stand from at up to i, and are put behind the first
 abbrev pub MonomialsTo : Bool → ℕ → Bytes → ℕ → Bytes → Bytes → List ℕ → List ℕ → ℕ → ℕ → ℕ → Bool → ℕ → Type 0
@@ -218,7 +218,7 @@ module _ (plain : Bool) (n : ℕ) (s : Bytes) (at : ℕ) (room : Bytes) (out : L
 
       pub poly_zero : {f : PolyRead} → (eqb r.terms 1 && m.zero && not negative) ≡ true → f ≡ record { why = ACCEPTED; end = r.end; terms = 0; names = r.names; bad = false }
           → PolyIs plain n s at room room' out out' f
-      unfolding first in_range renamedField every tooManyTerms decode worded names_of gather
+      unfolding first in_range renamed_field every too_many_terms decode worded names_of gather
       poly_zero z q =
           let w = sym nothing ∙ z in
           let one = eqb (suc (length y.value)) 1 in
@@ -242,23 +242,23 @@ module _ (plain : Bool) (n : ℕ) (s : Bytes) (at : ℕ) (room : Bytes) (out : L
       pub poly_terms : (eqb r.terms 1 && m.zero && not negative) ≡ false → (pair why : ℕ) → pair ≡ first_of m.why r.why
           → why ≡ first_of pair (cond (ltb field_terms r.terms) TERMS ACCEPTED)
           → PolyIs plain n s at room room' out out' (record { why = why; end = r.end; terms = r.terms; names = r.names; bad = m.bad || r.bad })
-      unfolding in_range renamedField every tooManyTerms decode worded names_of gather
+      unfolding in_range renamed_field every too_many_terms decode worded names_of gather
       poly_terms z pair why ep ew =
           let p = y.holds in
           let t = h.value in
           let ms = y.value in
           let e : as_written t ms ≡ t ∷ ms = written_as t ms ∙ cond_no _ [] (t ∷ ms) (sym nothing ∙ z) in
-          let wide : pair ≡ cond (in_range (renamedField unnumbered (t ∷ ms))) ACCEPTED NUMBER
-          = ep ∙ ap₂ first_of h.verdict p.verdict ∙ verdict_then (within 1 greatest_magnitude t.magnitude) (in_range (renamedField unnumbered ms))
-          ∙ ap (λ (b : Bool). cond (b && in_range (renamedField unnumbered ms)) ACCEPTED NUMBER) (sym (term_range t)) in
-          let long : ltb field_terms r.terms ≡ tooManyTerms (renamedField unnumbered (t ∷ ms)) = ap (ltb field_terms) (p.count ∙ ap suc (sym (length-map ms (renamedTerm unnumbered)))) in
+          let wide : pair ≡ cond (in_range (renamed_field unnumbered (t ∷ ms))) ACCEPTED NUMBER
+          = ep ∙ ap₂ first_of h.verdict p.verdict ∙ verdict_then (within 1 greatest_magnitude t.magnitude) (in_range (renamed_field unnumbered ms))
+          ∙ ap (λ (b : Bool). cond (b && in_range (renamed_field unnumbered ms)) ACCEPTED NUMBER) (sym (term_range t)) in
+          let long : ltb field_terms r.terms ≡ too_many_terms (renamed_field unnumbered (t ∷ ms)) = ap (ltb field_terms) (p.count ∙ ap suc (sym (length-map ms (renamed_term unnumbered)))) in
           record {
             said = inr (record {
               value = t ∷ ms;
               taken = subst (λ (p : WrittenOf Name). Got poly s at p r.end) e (poly_got g h.taken y.taken);
               verdict =
                   ew ∙ ap₂ (λ (a : ℕ) (b : Bool). first_of a (cond b TERMS ACCEPTED)) wide long
-                  ∙ verdict_first (in_range (renamedField unnumbered (t ∷ ms))) (tooManyTerms (renamedField unnumbered (t ∷ ms)));
+                  ∙ verdict_first (in_range (renamed_field unnumbered (t ∷ ms))) (too_many_terms (renamed_field unnumbered (t ∷ ms)));
               terms = p.count;
               run = λ a b.
                   let c = both_accepted pair (cond (ltb field_terms r.terms) TERMS ACCEPTED) (sym ew ∙ a) in
@@ -267,7 +267,7 @@ module _ (plain : Bool) (n : ℕ) (s : Bytes) (at : ℕ) (room : Bytes) (out : L
                   let d = or_none_left m.bad r.bad b in
                   let f = or_none_right m.bad r.bad b in
                   p.run w.1 f l
-                  ∙ ap (λ (q : Poly). q ++ worded (renamedField (number_in plain r.names room') ms))
+                  ∙ ap (λ (q : Poly). q ++ worded (renamed_field (number_in plain r.names room') ms))
                   (put.run w.0 (omega arith) ∙ ap (λ (u : Term). u ∷ []) (h.term w.0 d ∙ ap worded_term (sym (term_stays t h.names p.named d f))));
               names = both;
             });

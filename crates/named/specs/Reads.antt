@@ -8,13 +8,13 @@ use Rattle.words.specs.Parts.{Within}
 use Rattle.words.specs.Words.{number_of}
 use Rattle.terms.specs.Terms.{term_of, decode}
 use Rattle.paper.specs.Grammar.{Bytes, Reader, stuck, is_digit, digits}
-use Rattle.paper.specs.Statement.{TermOf, WrittenOf, renamedTerm, renamedField, within, in_range, tooManyTerms, setOf}
+use Rattle.paper.specs.Statement.{TermOf, WrittenOf, renamed_term, renamed_field, within, in_range, too_many_terms, set_of}
 use Rattle.paper.specs.Rules.{first}
 use Rattle.paper.specs.Published.{Name, constant, name, more_names, monomial, more_monomials, poly}
 use Rattle.paper.specs.Named.{names_of}
 use Rattle.written.specs.Worded.{worded_term, worded}
 use Rattle.reader.specs.Places.{Got, Fails}
-use Rattle.names.specs.Names.{held, Holding, numberBy, badBy, namesWith}
+use Rattle.names.specs.Names.{held, Holding, number_by, bad_by, names_with}
 use Rattle.named.specs.declared.name.NameRead.{NameRead}
 use Rattle.named.specs.declared.monomial.NamesRead.{NamesRead}
 use Rattle.named.specs.declared.monomial.ConstantRead.{ConstantRead}
@@ -37,13 +37,13 @@ StopsOr read s at e why T = ((why ≡ FORM) × Fails read s at e) ⊎ T
 
 -- ---- names read one after the other: whether one of them is bad, and those that are held then
 pub record NamesAre (plain : Bool) (n : ℕ) (ns : List Name) (room room' : Bytes) (names : ℕ) (bad : Bool) : Type 0 where
-  pub some : bad ≡ any (badBy plain (namesWith plain (held n room) ns)) ns
-  pub holds : bad ≡ false → held names room' ≡ namesWith plain (held n room) ns
+  pub some : bad ≡ any (bad_by plain (names_with plain (held n room) ns)) ns
+  pub holds : bad ≡ false → held names room' ≡ names_with plain (held n room) ns
   pub holding : Holding names room'
 
 -- the numbers of names, once they are held
 abbrev pub number_in : Bool → ℕ → Bytes → Name → ℕ
-number_in plain names room = numberBy plain (held names room)
+number_in plain names room = number_by plain (held names room)
 
 -- ---- one name
 pub record NameAt (plain : Bool) (n : ℕ) (s : Bytes) (at : ℕ) (room room' : Bytes) (r : NameRead) : Type 0 where
@@ -62,7 +62,7 @@ pub record NamesAt (plain : Bool) (n : ℕ) (s : Bytes) (at begin : ℕ) (room r
   pub value : List Name
   pub taken : Got more_names s at value r.end
   pub why : r.why ≡ ACCEPTED
-  pub set : r.bad ≡ false → number_of r.set ≡ bit_or begin (setOf (map (number_in plain r.names room') value))
+  pub set : r.bad ≡ false → number_of r.set ≡ bit_or begin (set_of (map (number_in plain r.names room') value))
   pub names : NamesAre plain n value room room' r.names r.bad
 
 abbrev pub NamesIs : Bool → ℕ → Bytes → ℕ → ℕ → Bytes → Bytes → NamesRead → Type 0
@@ -83,7 +83,7 @@ pub record MonomialAt (plain : Bool) (n : ℕ) (negative : Bool) (s : Bytes) (at
   pub sign : value.negative ≡ negative
   pub verdict : r.why ≡ cond (within 1 greatest_magnitude value.magnitude) ACCEPTED NUMBER
   pub zero : r.zero ≡ (eqb value.magnitude 0 && eqb (length value.variables) 0)
-  pub term : r.why ≡ ACCEPTED → r.bad ≡ false → term_of r.term ≡ worded_term (renamedTerm (number_in plain r.names room') value)
+  pub term : r.why ≡ ACCEPTED → r.bad ≡ false → term_of r.term ≡ worded_term (renamed_term (number_in plain r.names room') value)
   pub names : NamesAre plain n value.variables room room' r.names r.bad
 
 abbrev pub MonomialIs : Bool → ℕ → Bool → Bytes → ℕ → Bytes → Bytes → MonomialRead → Type 0
@@ -91,9 +91,9 @@ MonomialIs plain n negative s at room room' r = StopsOr (monomial negative) s at
 
 -- ---- monomials behind a first, put behind its term in out; their numbers are their coefficients here
 pub record MonomialsOf (plain : Bool) (n : ℕ) (room room' : Bytes) (out out' : List ℕ) (terms why names : ℕ) (bad : Bool) (ms : WrittenOf Name) : Type 0 where
-  pub verdict : why ≡ cond (in_range (renamedField (λ n. 0) ms)) ACCEPTED NUMBER
+  pub verdict : why ≡ cond (in_range (renamed_field (λ n. 0) ms)) ACCEPTED NUMBER
   pub count : terms ≡ suc (length ms)
-  pub run : why ≡ ACCEPTED → bad ≡ false → terms ≤ field_terms → decode terms out' ≡ decode 1 out ++ worded (renamedField (number_in plain names room') ms)
+  pub run : why ≡ ACCEPTED → bad ≡ false → terms ≤ field_terms → decode terms out' ≡ decode 1 out ++ worded (renamed_field (number_in plain names room') ms)
   pub named : NamesAre plain n (names_of ms) room room' names bad
 
 pub record MonomialsAt (plain : Bool) (n : ℕ) (s : Bytes) (at : ℕ) (room room' : Bytes) (out out' : List ℕ) (r : MonomialsRead) : Type 0 where
@@ -109,9 +109,9 @@ pub record MonomialsIs (plain : Bool) (n : ℕ) (s : Bytes) (at : ℕ) (room roo
 pub record PolyAt (plain : Bool) (n : ℕ) (s : Bytes) (at : ℕ) (room room' : Bytes) (out' : List ℕ) (r : PolyRead) : Type 0 where
   pub value : WrittenOf Name
   pub taken : Got poly s at value r.end
-  pub verdict : r.why ≡ first ((NUMBER, not (in_range (renamedField (λ n. 0) value))) ∷ (TERMS, tooManyTerms (renamedField (λ n. 0) value)) ∷ [])
+  pub verdict : r.why ≡ first ((NUMBER, not (in_range (renamed_field (λ n. 0) value))) ∷ (TERMS, too_many_terms (renamed_field (λ n. 0) value)) ∷ [])
   pub terms : r.terms ≡ length value
-  pub run : r.why ≡ ACCEPTED → r.bad ≡ false → decode r.terms out' ≡ worded (renamedField (number_in plain r.names room') value)
+  pub run : r.why ≡ ACCEPTED → r.bad ≡ false → decode r.terms out' ≡ worded (renamed_field (number_in plain r.names room') value)
   pub names : NamesAre plain n (names_of value) room room' r.names r.bad
 
 pub record PolyIs (plain : Bool) (n : ℕ) (s : Bytes) (at : ℕ) (room room' : Bytes) (out out' : List ℕ) (r : PolyRead) : Type 0 where

@@ -3,7 +3,7 @@ ghost use Rattle.std.specs.Prelude.{◌≡◌, true, false, ◌≤◌, length};
 ghost use Rattle.limits.specs.Verdicts.{FORM};
 ghost use Rattle.words.specs.Words.{number_of};
 ghost use Rattle.paper.specs.Grammar.{is_digit};
-ghost use Rattle.names.specs.Names.{Holding, hintCount};
+ghost use Rattle.names.specs.Names.{Holding, hint_count};
 ghost use Rattle.named.specs.Reads.{is_at, NamesIs, ConstantAt, MonomialIs};
 
 use super::name::read_name;
@@ -54,7 +54,7 @@ fn read_names(
     at: usize,
     first: Set,
 ) -> NamesRead
-    requires { Holding n room.old × (hintCount ≤ length hints.old) × (at ≤ length s.now) }
+    requires { Holding n room.old × (hint_count ≤ length hints.old) × (at ≤ length s.now) }
     ensures { NamesIs plain n s.now at (number_of first) room.old room.new result }
 {
     let mut set = first;
@@ -142,7 +142,7 @@ fn behind_constant(
     at: usize,
     negative: bool,
 ) -> MonomialRead
-    requires { Holding n room.old × (hintCount ≤ length hints.old) × (is_at is_digit s.now at ≡ true) }
+    requires { Holding n room.old × (hint_count ≤ length hints.old) × (is_at is_digit s.now at ≡ true) }
     ensures { MonomialIs plain n negative s.now at room.old room.new result }
 {
     let c = read_constant(s, at);
@@ -171,7 +171,7 @@ fn of_names(
     at: usize,
     negative: bool,
 ) -> MonomialRead
-    requires { Holding n room.old × (hintCount ≤ length hints.old) × (at ≤ length s.now) × (is_at is_digit s.now at ≡ false) }
+    requires { Holding n room.old × (hint_count ≤ length hints.old) × (at ≤ length s.now) × (is_at is_digit s.now at ≡ false) }
     ensures { MonomialIs plain n negative s.now at room.old room.new result }
 {
     let v = read_name(plain, room, hints, n, s, at);
@@ -204,7 +204,7 @@ pub fn read_monomial(
     at: usize,
     negative: bool,
 ) -> MonomialRead
-    requires { Holding n room.old × (hintCount ≤ length hints.old) × (at ≤ length s.now) }
+    requires { Holding n room.old × (hint_count ≤ length hints.old) × (at ≤ length s.now) }
     ensures { MonomialIs plain n negative s.now at room.old room.new result }
 {
     if digit_at(s, at) {

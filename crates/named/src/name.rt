@@ -3,7 +3,7 @@ ghost use Rattle.std.specs.Prelude.{◌≡◌, cond, ◌-◌, ◌≤◌, length}
 ghost use Rattle.words.specs.Parts.{part};
 ghost use Rattle.paper.specs.Published.{is_letter, name_rest};
 ghost use Rattle.reader.specs.Places.{Got};
-ghost use Rattle.names.specs.Names.{Holding, hintCount};
+ghost use Rattle.names.specs.Names.{Holding, hint_count};
 ghost use Rattle.named.specs.Reads.{is_at, NameIs};
 
 use super::token::{digit_at, skip_spaces};
@@ -58,7 +58,7 @@ pub fn read_name(
     s: &[u8],
     at: usize,
 ) -> NameRead
-    requires { Holding n room.old × (hintCount ≤ length hints.old) × (at ≤ length s.now) }
+    requires { Holding n room.old × (hint_count ≤ length hints.old) × (at ≤ length s.now) }
     ensures { NameIs plain n s.now at room.old room.new result }
 {
     if !letter_at(s, at) {

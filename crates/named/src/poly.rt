@@ -4,7 +4,7 @@ ghost use Rattle.limits.specs.Limits.{field_terms, term_words};
 ghost use Rattle.paper.specs.Published.{minus};
 ghost use Rattle.reader.specs.Places.{Got};
 ghost use Rattle.reader.specs.Fields.{stands_at};
-ghost use Rattle.names.specs.Names.{Holding, hintCount};
+ghost use Rattle.names.specs.Names.{Holding, hint_count};
 ghost use Rattle.named.specs.Reads.{MonomialsIs, PolyIs};
 
 use super::monomial::read_monomial;
@@ -43,7 +43,7 @@ fn read_rest(
     at: usize,
     out: &mut [u64],
 ) -> MonomialsRead
-    requires { Holding n room.old × (hintCount ≤ length hints.old) × (at ≤ length s.now) × (field_terms * term_words ≤ length out.old) }
+    requires { Holding n room.old × (hint_count ≤ length hints.old) × (at ≤ length s.now) × (field_terms * term_words ≤ length out.old) }
     ensures { MonomialsIs plain n s.now at room.old room.new out.old out.new result }
 {
     let mut terms: usize = 1;
@@ -121,7 +121,7 @@ pub fn read_poly(
     at: usize,
     out: &mut [u64],
 ) -> PolyRead
-    requires { Holding n room.old × (hintCount ≤ length hints.old) × (at ≤ length s.now) × (field_terms * term_words ≤ length out.old) }
+    requires { Holding n room.old × (hint_count ≤ length hints.old) × (at ≤ length s.now) × (field_terms * term_words ≤ length out.old) }
     ensures { PolyIs plain n s.now at room.old room.new out.old out.new result }
 {
     let negative = stands_at(s, at, b'-');

@@ -13,7 +13,7 @@ use borrow.Author.Tests.{eqb-true, eqb-false, eq-eqb, ne_eqb, lt-ltb, ltb-true, 
 use Rattle.ground.proofs.Tests.{split, by_cond, cond_yes, cond_no}
 use Rattle.limits.specs.Limits.{variables}
 use Rattle.paper.specs.Grammar.{Bytes, bytes, Read, got, stuck, next, literal, end, decimal}
-use Rattle.paper.specs.Statement.{isVariable, within}
+use Rattle.paper.specs.Statement.{is_variable, within}
 use Rattle.paper.specs.Published.{Name}
 use Rattle.paper.specs.Named.{after_x, is_plain, plain_number}
 use Rattle.paper.proofs.Names.{never}
@@ -21,22 +21,22 @@ use Rattle.reader.specs.Numbers.{OutOfRange, NumberIs}
 use Rattle.reader.specs.declared.number.Number.{Number}
 use Rattle.reader.specs.declared.number.Number.TheVariants.{Value as Ranged, Refused}
 use Rattle.reader.proofs.Numbers.{within_yes, number_got}
-use Rattle.names.specs.Names.{behindX, PlainIs}
+use Rattle.names.specs.Names.{behind_x, PlainIs}
 
 -- ---- `behind_x`
 module _ (s : Name) where
-  pub behind_other : (get_or s 0 0 ≡ code "x" → ⊥) → length s ≡ behindX s
+  pub behind_other : (get_or s 0 0 ≡ code "x" → ⊥) → length s ≡ behind_x s
   behind_other d = sym (cond_no (eqb (get_or s 0 0) 120) 1 (length s) (ne_eqb (get_or s 0 0) 120 d))
 
-  pub behind_empty : length s ≡ 0 → 0 ≡ behindX s
+  pub behind_empty : length s ≡ 0 → 0 ≡ behind_x s
   behind_empty e =
       let z : get_or s 0 0 ≡ 0 = get_or-eq_default s 0 {n = 0} (omega arith) in
       sym e ∙ behind_other (λ q. let y : ⊥ = omega arith in y)
 
-  pub behind_yes : get_or s 0 0 ≡ code "x" → 1 ≡ behindX s
+  pub behind_yes : get_or s 0 0 ≡ code "x" → 1 ≡ behind_x s
   behind_yes e = sym (cond_yes (eqb (get_or s 0 0) 120) 1 (length s) (eq-eqb (get_or s 0 0) 120 e))
 
-  pub behind_inside : (a : ℕ) → a ≡ behindX s → a ≤ length s
+  pub behind_inside : (a : ℕ) → a ≡ behind_x s → a ≤ length s
   behind_inside a e = rw e (by_cond (λ (i : ℕ). i ≤ length s) (eqb (get_or s 0 0) 120) (λ t. some (eqb-true (get_or s 0 0) 120 t)) (λ _. omega arith))
     where
       some : get_or s 0 0 ≡ 120 → 1 ≤ length s
@@ -58,7 +58,7 @@ without_x (b ∷ s) d = rw (ne_eqb b 120 d)
 
 -- ---- what the decimal tells of a name
 abbrev tells_plain : Read ℕ → Bool
-tells_plain d = elim d [ got v r ↦ isVariable v | stuck r ↦ false ]
+tells_plain d = elim d [ got v r ↦ is_variable v | stuck r ↦ false ]
 
 abbrev tells_number : Read ℕ → ℕ
 tells_number d = elim d [ got v r ↦ v | stuck r ↦ 0 ]
@@ -75,7 +75,7 @@ tells s d e = record { plain = ap tells_plain e; number = ap tells_number e }
 tells_none : (s : Name) (r t : Bytes) → SaysPlain s (stuck r) → SaysPlain s (stuck t)
 tells_none s r t h = record { plain = h.plain; number = h.number }
 
-tells_behind : (s : Name) (d : Read ℕ) → decimal (drop (behindX s) s) ≡ d → SaysPlain s (to_end d)
+tells_behind : (s : Name) (d : Read ℕ) → decimal (drop (behind_x s) s) ≡ d → SaysPlain s (to_end d)
 unfolding decimal to_end
 tells_behind s d e = go (eqb (get_or s 0 0) (code "x")) refl e
   where
@@ -94,13 +94,13 @@ end_at s v e h = go (eqb e (length s)) refl
     go false q = let d : e ≡ length s → ⊥ = eqb-false e (length s) q in rw (drop-cons s e 0 (omega arith))
 
 -- ---- `plain_number`
-no_variable : (v : ℕ) → within 0 (variables - 1) v ≡ false → isVariable v ≡ false
-unfolding isVariable
+no_variable : (v : ℕ) → within 0 (variables - 1) v ≡ false → is_variable v ≡ false
+unfolding is_variable
 no_variable v o = ⊎_elim (λ t. never (sym (within_yes 0 (variables - 1) v (omega arith) (omega (arith, ltb-true v variables t))) ∙ o)) (λ t. t) (split (ltb v variables))
 
-module _ (s : Name) (at : ℕ) (q : at ≡ behindX s) where
+module _ (s : Name) (at : ℕ) (q : at ≡ behind_x s) where
   pub plain_read : {n : Number} {v e : ℕ} → NumberIs decimal 0 (variables - 1) s at n → n ≡ Ranged v e → PlainIs s (record { number = v; plain = eqb e (length s) })
-  unfolding isVariable
+  unfolding is_variable
   plain_read {v = v} {e = e} h f =
       let r = number_got decimal 0 (variables - 1) s at h f in
       let g = r.taken in

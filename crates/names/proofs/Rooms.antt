@@ -18,45 +18,45 @@ use Rattle.words.proofs.Parts.{within_trans, within_wider, below_kept, paste_wit
 use Rattle.paper.specs.Grammar.{Bytes}
 use Rattle.paper.specs.Published.{Name}
 use Rattle.paper.specs.Named.{same_name, place_in, with_names}
-use Rattle.paper.proofs.Names.{same-name, isIn, place-in, place_out, place_here, place-further, place-behind, with-new, once-with}
-use Rattle.names.specs.Names.{slotBytes, nameIn, held, Holding, HeldBehind}
+use Rattle.paper.proofs.Names.{same_name_law, is_in, place_in_law, place_out, place_here, place_further, place_behind, with_new, once_with}
+use Rattle.names.specs.Names.{slot_bytes, name_in, held, Holding, HeldBehind}
 
 pub length_held : (n : ℕ) (room : Bytes) → length (held n room) ≡ n
 unfolding held
 length_held zero room = refl
-length_held (suc n) room = omega (arith, length-append (held n room) (nameIn room n ∷ []), length_held n room)
+length_held (suc n) room = omega (arith, length-append (held n room) (name_in room n ∷ []), length_held n room)
 
-pub held_at : (n : ℕ) (room : Bytes) (i : ℕ) → i < n → get_or (held n room) i [] ≡ nameIn room i
+pub held_at : (n : ℕ) (room : Bytes) (i : ℕ) → i < n → get_or (held n room) i [] ≡ name_in room i
 unfolding held
 held_at zero room i h = absurd (not-suc-le-zero h)
 held_at (suc n) room i h = ⊎_elim (λ t. let l = ltb-true i n t in before l (held_at n room i l)) (λ t. last (ltb-false i n t)) (split (ltb i n))
   where
-    before : i < n → get_or (held n room) i [] ≡ nameIn room i → get_or (held n room ++ (nameIn room n ∷ [])) i [] ≡ nameIn room i
-    before l ih = get_or-append (held n room) (nameIn room n ∷ []) [] i (omega (arith, length_held n room)) ∙ ih
+    before : i < n → get_or (held n room) i [] ≡ name_in room i → get_or (held n room ++ (name_in room n ∷ [])) i [] ≡ name_in room i
+    before l ih = get_or-append (held n room) (name_in room n ∷ []) [] i (omega (arith, length_held n room)) ∙ ih
 
-    last : n ≤ i → get_or (held n room ++ (nameIn room n ∷ [])) i [] ≡ nameIn room i
+    last : n ≤ i → get_or (held n room ++ (name_in room n ∷ [])) i [] ≡ name_in room i
     last l =
         let e : n ≡ i = omega arith in
-        get_or_at (held n room) (nameIn room n) [] [] i (length_held n room ∙ e) ∙ ap (nameIn room) e
+        get_or_at (held n room) (name_in room n) [] [] i (length_held n room ∙ e) ∙ ap (name_in room) e
 
 pub place_most : (n : ℕ) (room : Bytes) (s : Name) → place_in (held n room) s ≤ n
 place_most n room s =
     ⊎_elim
-    (λ t. omega (arith, place-in (held n room) s t, length_held n room))
+    (λ t. omega (arith, place_in_law (held n room) s t, length_held n room))
     (λ t. omega (arith, place_out (held n room) s t, length_held n room))
-    (split (isIn (held n room) s))
+    (split (is_in (held n room) s))
 
 -- no other place is that of the i-th
-pub alone_at : (n : ℕ) (room : Bytes) (s : Name) (i : ℕ) → Holding n room → i < n → same_name (nameIn room i) s ≡ true → i ≡ place_in (held n room) s
+pub alone_at : (n : ℕ) (room : Bytes) (s : Name) (i : ℕ) → Holding n room → i < n → same_name (name_in room i) s ≡ true → i ≡ place_in (held n room) s
 alone_at n room s i h l e =
-    sym (h.apart i (omega (arith, length_held n room))) ∙ ap (place_in (held n room)) (held_at n room i l ∙ same-name (nameIn room i) s e)
+    sym (h.apart i (omega (arith, length_held n room))) ∙ ap (place_in (held n room)) (held_at n room i l ∙ same_name_law (name_in room i) s e)
 
 -- ---- a search from the first on: none of the first i is the name
 abbrev pub NotBefore : ℕ → Bytes → Name → ℕ → Type 0
 NotBefore n room s i = place_in (held n room) s ≡ i + place_in (drop i (held n room)) s
 
 module _ (n : ℕ) (room : Bytes) (s : Name) (i : ℕ) (p : NotBefore n room s i) where
-  module _ (l : i < n) (b : Bool) (e : b ≡ same_name (nameIn room i) s) where
+  module _ (l : i < n) (b : Bool) (e : b ≡ same_name (name_in room i) s) where
     is_at : same_name (get_or (held n room) i []) s ≡ b
     is_at = ap (λ (m : Name). same_name m s) (held_at n room i l) ∙ sym e
 
@@ -64,23 +64,23 @@ module _ (n : ℕ) (room : Bytes) (s : Name) (i : ℕ) (p : NotBefore n room s i
     found t = sym (place_here (held n room) s i p (omega (arith, length_held n room)) (is_at ∙ t))
 
     pub passed_more : b ≡ false → NotBefore n room s (i + 1)
-    passed_more t = place-further (held n room) s i p (omega (arith, length_held n room)) (is_at ∙ t)
+    passed_more t = place_further (held n room) s i p (omega (arith, length_held n room)) (is_at ∙ t)
 
   pub passed_all : i ≡ n → n ≡ place_in (held n room) s
-  passed_all e = sym (place-behind (held n room) s i p (e ∙ sym (length_held n room)) ∙ e)
+  passed_all e = sym (place_behind (held n room) s i p (e ∙ sym (length_held n room)) ∙ e)
 
 -- ---- a change behind the first n
-module _ (n e : ℕ) (room room' : Bytes) (w : Within (n * slotBytes) e room room') where
-  size_kept : (i : ℕ) → i < n → get_or room' (i * slotBytes) 0 ≡ get_or room (i * slotBytes) 0
+module _ (n e : ℕ) (room room' : Bytes) (w : Within (n * slot_bytes) e room room') where
+  size_kept : (i : ℕ) → i < n → get_or room' (i * slot_bytes) 0 ≡ get_or room (i * slot_bytes) 0
   size_kept i h =
-      sym (get_or-take (n * slotBytes) room' (i * slotBytes) 0 (omega arith)) ∙ ap (λ (l : Bytes). get_or l (i * slotBytes) 0) w.before
-      ∙ get_or-take (n * slotBytes) room (i * slotBytes) 0 (omega arith)
+      sym (get_or-take (n * slot_bytes) room' (i * slot_bytes) 0 (omega arith)) ∙ ap (λ (l : Bytes). get_or l (i * slot_bytes) 0) w.before
+      ∙ get_or-take (n * slot_bytes) room (i * slot_bytes) 0 (omega arith)
 
-  module _ (short : (i : ℕ) → i < n → get_or room (i * slotBytes) 0 ≤ name_bytes) where
-    name_kept : (i : ℕ) → i < n → nameIn room' i ≡ nameIn room i
+  module _ (short : (i : ℕ) → i < n → get_or room (i * slot_bytes) 0 ≤ name_bytes) where
+    name_kept : (i : ℕ) → i < n → name_in room' i ≡ name_in room i
     name_kept i h =
-        ap (λ (k : ℕ). part (i * slotBytes + 1) k room') (size_kept i h)
-        ∙ below_kept (n * slotBytes) e room room' w (i * slotBytes + 1) (get_or room (i * slotBytes) 0) (omega (arith, short i h))
+        ap (λ (k : ℕ). part (i * slot_bytes + 1) k room') (size_kept i h)
+        ∙ below_kept (n * slot_bytes) e room room' w (i * slot_bytes + 1) (get_or room (i * slot_bytes) 0) (omega (arith, short i h))
 
     held_kept : (m : ℕ) → m ≤ n → held m room' ≡ held m room
     unfolding held
@@ -91,24 +91,24 @@ module _ (n e : ℕ) (room room' : Bytes) (w : Within (n * slotBytes) e room roo
 set_within : (a e : ℕ) (s : Bytes) (i x : ℕ) → a ≤ i → i < e → Within a e s (set s i x)
 set_within a e s i x h k = record { before = take-set-le a s i x h; after = drop-set-lt e s i x k; same = length-set s i x }
 
-module _ (n : ℕ) (room : Bytes) (name : Name) (l : n < variables) (k : length name ≤ name_bytes) (f : variables * slotBytes ≤ length room) where
+module _ (n : ℕ) (room : Bytes) (name : Name) (l : n < variables) (k : length name ≤ name_bytes) (f : variables * slot_bytes ≤ length room) where
   -- as far as its first j bytes
   abbrev pub put_to : ℕ → Bytes
-  put_to j = paste (set room (n * slotBytes) (length name)) (n * slotBytes + 1) name j
+  put_to j = paste (set room (n * slot_bytes) (length name)) (n * slot_bytes + 1) name j
 
-  pub put_more : (j : ℕ) (r : Bytes) → j < length name → r ≡ put_to j → set r (n * slotBytes + 1 + j) (get_or name j 0) ≡ put_to (j + 1)
+  pub put_more : (j : ℕ) (r : Bytes) → j < length name → r ≡ put_to j → set r (n * slot_bytes + 1 + j) (get_or name j 0) ≡ put_to (j + 1)
   put_more j r h e =
-      ap (λ (x : Bytes). set x (n * slotBytes + 1 + j) (get_or name j 0)) e
-      ∙ paste_more (set room (n * slotBytes) (length name)) (n * slotBytes + 1) name j (omega (arith, length-set room (n * slotBytes) (length name))) h
+      ap (λ (x : Bytes). set x (n * slot_bytes + 1 + j) (get_or name j 0)) e
+      ∙ paste_more (set room (n * slot_bytes) (length name)) (n * slot_bytes + 1) name j (omega (arith, length-set room (n * slot_bytes) (length name))) h
 
   pub put_same : (j : ℕ) (r : Bytes) → j ≤ length name → r ≡ put_to j → length r ≡ length room
   put_same j r h e =
-      let s = length-set room (n * slotBytes) (length name) in
-      ap length e ∙ length-paste (set room (n * slotBytes) (length name)) (n * slotBytes + 1) name j (omega arith) h ∙ s
+      let s = length-set room (n * slot_bytes) (length name) in
+      ap length e ∙ length-paste (set room (n * slot_bytes) (length name)) (n * slot_bytes + 1) name j (omega arith) h ∙ s
 
   pub put_all : (j : ℕ) (r : Bytes) → j ≡ length name → r ≡ put_to j → HeldBehind n name room r
   put_all j r q e =
-      let at : ℕ = n * slotBytes in
+      let at : ℕ = n * slot_bytes in
       let m : Bytes = set room at (length name) in
       let g : at + 1 + length name ≤ length m = omega (arith, length-set room at (length name)) in
       let w : Within (at + 1) (at + 1 + length name) m (put_to (length name)) = paste_within m (at + 1) name (length name) g (omega arith) in
@@ -116,8 +116,8 @@ module _ (n : ℕ) (room : Bytes) (name : Name) (l : n < variables) (k : length 
       sym (get_or-take (at + 1) (put_to (length name)) at 0 (omega arith)) ∙ ap (λ (x : Bytes). get_or x at 0) w.before ∙ get_or-take (at + 1) m at 0 (omega arith)
       ∙ get_or-set_same room at (length name) 0 (omega arith) in
       rw (e, q) (record {
-        within = within_trans (set_within at ((n + 1) * slotBytes) room at (length name) (omega arith) (omega arith))
-            (within_wider at (at + 1) (at + 1 + length name) ((n + 1) * slotBytes) m (put_to (length name)) (omega arith) (omega arith) w);
+        within = within_trans (set_within at ((n + 1) * slot_bytes) room at (length name) (omega arith) (omega arith))
+            (within_wider at (at + 1) (at + 1 + length name) ((n + 1) * slot_bytes) m (put_to (length name)) (omega arith) (omega arith) w);
         size = size;
         bytes = ap (λ (i : ℕ). part (at + 1) i (put_to (length name))) size ∙ part_paste m (at + 1) name (length name) g (omega arith) ∙ take-length name;
       })
@@ -126,20 +126,20 @@ module _ (n : ℕ) (room room' : Bytes) (name : Name) (h : Holding n room) (p : 
   pub put_held : held (n + 1) room' ≡ held n room ++ (name ∷ [])
   unfolding held
   put_held =
-      rw (add-one n) (ap₂ (λ (ms : List Name) (k : Name). ms ++ (k ∷ [])) (held_kept n ((n + 1) * slotBytes) room room' p.within h.short n (omega arith)) p.bytes)
+      rw (add-one n) (ap₂ (λ (ms : List Name) (k : Name). ms ++ (k ∷ [])) (held_kept n ((n + 1) * slot_bytes) room room' p.within h.short n (omega arith)) p.bytes)
 
-  pub put_holding : n < variables → length name ≤ name_bytes → isIn (held n room) name ≡ false → Holding (n + 1) room'
+  pub put_holding : n < variables → length name ≤ name_bytes → is_in (held n room) name ≡ false → Holding (n + 1) room'
   put_holding l s o =
       record {
         few = omega arith;
         fits = omega (arith, p.within.same, h.fits);
         short = short;
-        apart = let e : held (n + 1) room' ≡ with_names (held n room) (name ∷ []) = put_held ∙ sym (with-new (held n room) name o) in rw e (once-with (held n room) (name ∷ []) h.apart);
+        apart = let e : held (n + 1) room' ≡ with_names (held n room) (name ∷ []) = put_held ∙ sym (with_new (held n room) name o) in rw e (once_with (held n room) (name ∷ []) h.apart);
       }
     where
-      short : (i : ℕ) → i < n + 1 → get_or room' (i * slotBytes) 0 ≤ name_bytes
+      short : (i : ℕ) → i < n + 1 → get_or room' (i * slot_bytes) 0 ≤ name_bytes
       short i k =
           ⊎_elim
-          (λ t. let j = ltb-true i n t in omega (arith, size_kept n ((n + 1) * slotBytes) room room' p.within i j, h.short i j))
-          (λ t. let e : n ≡ i = omega (arith, ltb-false i n t) in omega (arith, p.size, ap (λ (m : ℕ). get_or room' (m * slotBytes) 0) e))
+          (λ t. let j = ltb-true i n t in omega (arith, size_kept n ((n + 1) * slot_bytes) room room' p.within i j, h.short i j))
+          (λ t. let e : n ≡ i = omega (arith, ltb-false i n t) in omega (arith, p.size, ap (λ (m : ℕ). get_or room' (m * slot_bytes) 0) e))
           (split (ltb i n))

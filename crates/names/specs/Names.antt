@@ -4,7 +4,7 @@ use Prim.Native.Char.{code}
 use Rattle.limits.specs.Limits.{name_bytes, variables}
 use Rattle.words.specs.Parts.{part, Within}
 use Rattle.paper.specs.Grammar.{Bytes}
-use Rattle.paper.specs.Statement.{isVariable}
+use Rattle.paper.specs.Statement.{is_variable}
 use Rattle.paper.specs.Published.{Name}
 use Rattle.paper.specs.Named.{plain_number, is_plain, place_in, with_names}
 use Rattle.names.specs.declared.Numbered.{Numbered}
@@ -41,7 +41,7 @@ module _ (plain : Bool) (ms : List Name) where
   number_by n = cond plain (plain_number n) (place_in ms n)
 
   abbrev pub bad_by : Name → Bool
-  bad_by n = cond plain (not (is_plain n)) (ltb name_bytes (length n) || not (isVariable (place_in ms n)))
+  bad_by n = cond plain (not (is_plain n)) (ltb name_bytes (length n) || not (is_variable (place_in ms n)))
 
   -- and with it
   abbrev pub names_with : List Name → List Name

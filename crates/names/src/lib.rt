@@ -2,7 +2,7 @@
 ghost use Rattle.std.specs.Prelude.{◌≡◌, true, false, ◌*◌, ◌≤◌, ◌<◌, length, get_or};
 ghost use Rattle.limits.specs.Limits.{name_bytes, variables};
 ghost use Rattle.paper.specs.Named.{same_name, place_in};
-ghost use Rattle.names.specs.Names.{slotBytes, nameIn, held, Holding, HeldBehind, behindX, PlainIs, NumberedIs, hintCount};
+ghost use Rattle.names.specs.Names.{slot_bytes, name_in, held, Holding, HeldBehind, behind_x, PlainIs, NumberedIs, hint_count};
 
 use reader::number::{Number, number_at};
 
@@ -32,8 +32,8 @@ pub struct Plain {
 
 // Whether the i-th name of a room is s.
 fn is_name(room: &[u8], i: usize, s: &[u8]) -> bool
-    requires { (i < variables) × (variables * slotBytes ≤ length room.now) × (get_or room.now (i * slotBytes) 0 ≤ name_bytes) × (length s.now ≤ name_bytes) }
-    ensures { result ≡ same_name (nameIn room.now i) s.now }
+    requires { (i < variables) × (variables * slot_bytes ≤ length room.now) × (get_or room.now (i * slot_bytes) 0 ≤ name_bytes) × (length s.now ≤ name_bytes) }
+    ensures { result ≡ same_name (name_in room.now i) s.now }
 {
     let at = i * SLOT;
     if room[at] as usize != s.len() {
@@ -66,7 +66,7 @@ fn find_name(room: &[u8], n: usize, s: &[u8]) -> usize
 
 // Holds s as the n-th name of a room.
 fn put_name(room: &mut [u8], n: usize, s: &[u8])
-    requires { (n < variables) × (length s.now ≤ name_bytes) × (variables * slotBytes ≤ length room.old) }
+    requires { (n < variables) × (length s.now ≤ name_bytes) × (variables * slot_bytes ≤ length room.old) }
     ensures { HeldBehind n s.now room.old room.new }
 {
     let at = n * SLOT;
@@ -80,7 +80,7 @@ fn put_name(room: &mut [u8], n: usize, s: &[u8])
 
 // The place of a name's hint.
 fn hint_of(s: &[u8]) -> usize
-    ensures { result < hintCount }
+    ensures { result < hint_count }
 {
     let mut h = 0;
     let mut j = 0;
@@ -104,7 +104,7 @@ fn bad(n: usize) -> Numbered
 
 // A name by its place among the n that are held; a new one is held from now on, if it is short and there is room for it.
 fn number_by_place(room: &mut [u8], hints: &mut [u16], n: usize, s: &[u8]) -> Numbered
-    requires { Holding n room.old × (hintCount ≤ length hints.old) }
+    requires { Holding n room.old × (hint_count ≤ length hints.old) }
     ensures { NumberedIs false n s.now room.old room.new result }
 {
     if limits::NAME_BYTES < s.len() {
@@ -143,7 +143,7 @@ fn number_by_place(room: &mut [u8], hints: &mut [u16], n: usize, s: &[u8]) -> Nu
 
 // Where the decimal of a plain name begins: behind its x. The end of a name without one.
 fn behind_x(s: &[u8]) -> usize
-    ensures { result ≡ behindX s.now }
+    ensures { result ≡ behind_x s.now }
 {
     if s.len() == 0 {
         return 0;
@@ -173,7 +173,7 @@ pub fn plain_number(s: &[u8]) -> Plain
 
 // The number of a name: plain, or by its place. A bad name has none: one that is not plain, or one that is too long or a name too many.
 pub fn number_name(plain: bool, room: &mut [u8], hints: &mut [u16], n: usize, s: &[u8]) -> Numbered
-    requires { Holding n room.old × (hintCount ≤ length hints.old) }
+    requires { Holding n room.old × (hint_count ≤ length hints.old) }
     ensures { NumberedIs plain n s.now room.old room.new result }
 {
     if !plain {

@@ -9,7 +9,7 @@ use lib.ListN.{length, length-append}
 use Rattle.ground.specs.Lists.{every, any, total}
 use Rattle.ground.proofs.Tests.{or_none_left, and_left}
 use Rattle.algebra.specs.Polynomial.{Poly, extension}
-use Rattle.paper.specs.Statement.{modulo, Statement, ring, input, goal, lin, del, ext, newIndex, namedIndices, forgets, reduced}
+use Rattle.paper.specs.Statement.{modulo, Statement, ring, input, goal, lin, del, ext, new_index, named_indices, forgets, reduced}
 use Rattle.paper.specs.Rules.{Store, stored, Distinct, find, remove, stored_terms, State, start, place, entries, product_count, without, after}
 use Rattle.paper.specs.Answer.{ring_in, sum_over, named, products_in, introduced_polynomials, deleted_polynomials, introduced_terms, deleted_terms}
 use Rattle.paper.proofs.Stands.{Stands, stands_none}
@@ -66,7 +66,7 @@ module _ (k j : ℕ) where
       more_terms_law = omega (arith, terms_append s.store (record { index = i; poly = p } ∷ []), c.terms)
 
     next : (capacity : ℕ) (st : Statement) → Stands capacity (with_ring k s) st → Carried (after (with_ring k s) st) (st ∷ h)
-    unfolding place after entries without forgets total newIndex namedIndices stored find any every ring_in named deleted_polynomials introduced_polynomials deleted_terms introduced_terms sum_over
+    unfolding place after entries without forgets total new_index named_indices stored find any every ring_in named deleted_polynomials introduced_polynomials deleted_terms introduced_terms sum_over
     next capacity (ring j) st = absurd (omega (arith, st.placed, c.begun))
     next capacity (input i p) st = record {
       ringed = refl;

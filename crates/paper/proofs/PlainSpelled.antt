@@ -13,13 +13,13 @@ use Rattle.limits.specs.Limits.{name_bytes, variables}
 use Rattle.ground.specs.Lists.{any, every}
 use Rattle.ground.proofs.Tests.{and_left, and_right, or_cases}
 use Rattle.paper.specs.Grammar.{Bytes, bytes, Read, got, stuck, Reader, next, ◌>>=◌, ◌>>◌, give, literal, end, is_digit, digits, decimal}
-use Rattle.paper.specs.Statement.{isVariable}
+use Rattle.paper.specs.Statement.{is_variable}
 use Rattle.paper.specs.Spelling.{spell_number}
 use Rattle.paper.specs.Published.{Name}
 use Rattle.paper.specs.Named.{after_x, plain_number, is_plain, same_name, place_in, with_names, numbering}
 use Rattle.paper.proofs.Reading.{clash, parted}
 use Rattle.paper.proofs.Numbers.{number_small, number_more, number_most}
-use Rattle.paper.proofs.Names.{never, same-name, isIn, name-at, name-comes}
+use Rattle.paper.proofs.Names.{never, same_name_law, is_in, name_at, name_comes}
 
 -- ---- a decimal has no leading zero: it is the spelling of its value
 digit_back : (b : ℕ) → is_digit b ≡ true → (code "0" + (b - code "0") ≡ b) × (b - code "0" < 10)
@@ -93,36 +93,36 @@ plain_spelled : (n : Name) → is_plain n ≡ true → n ≡ code "x" ∷ spell_
 unfolding is_plain plain_number
 plain_spelled n e = go (after_x n) refl e
   where
-    go : (a : Read ℕ) → after_x n ≡ a → elim a [ got v r ↦ isVariable v | stuck r ↦ false ] ≡ true → n ≡ code "x" ∷ spell_number (elim a [ got v r ↦ v | stuck r ↦ 0 ])
+    go : (a : Read ℕ) → after_x n ≡ a → elim a [ got v r ↦ is_variable v | stuck r ↦ false ] ≡ true → n ≡ code "x" ∷ spell_number (elim a [ got v r ↦ v | stuck r ↦ 0 ])
     go (got v r) q e = after_x_law n v r q
     go (stuck r) q e = never (sym e)
 
 -- its number is a variable, of three digits at the most
-pub plain_variable : (n : Name) → is_plain n ≡ true → isVariable (plain_number n) ≡ true
+pub plain_variable : (n : Name) → is_plain n ≡ true → is_variable (plain_number n) ≡ true
 unfolding is_plain plain_number
 plain_variable n e = go (after_x n) e
   where
-    go : (a : Read ℕ) → elim a [ got v r ↦ isVariable v | stuck r ↦ false ] ≡ true → isVariable (elim a [ got v r ↦ v | stuck r ↦ 0 ]) ≡ true
+    go : (a : Read ℕ) → elim a [ got v r ↦ is_variable v | stuck r ↦ false ] ≡ true → is_variable (elim a [ got v r ↦ v | stuck r ↦ 0 ]) ≡ true
     go (got v r) e = e
     go (stuck r) e = never (sym e)
 
 pub plain_short : (n : Name) → is_plain n ≡ true → length n ≤ name_bytes
-unfolding isVariable
+unfolding is_variable
 plain_short n e =
     let l = ltb-true (plain_number n) variables (plain_variable n e) in
     omega (arith, ap length (plain_spelled n e), number_most 2 (plain_number n) (omega arith))
 
-plain_of : (ns : List Name) (n : Name) → every is_plain ns ≡ true → isIn ns n ≡ true → is_plain n ≡ true
+plain_of : (ns : List Name) (n : Name) → every is_plain ns ≡ true → is_in ns n ≡ true → is_plain n ≡ true
 unfolding any every
 plain_of [] n p e = never (sym e)
 plain_of (m ∷ ns) n p e =
     ⊎_elim
-    (λ s. ap is_plain (sym (same-name m n s)) ∙ and_left (is_plain m) (every is_plain ns) p)
+    (λ s. ap is_plain (sym (same_name_law m n s)) ∙ and_left (is_plain m) (every is_plain ns) p)
     (λ h. plain_of ns n (and_right (is_plain m) (every is_plain ns) p) h)
-    (or_cases (same_name m n) (isIn ns n) e)
+    (or_cases (same_name m n) (is_in ns n) e)
 
 -- ---- one number is of one name
-pub numbers_apart : (ns : List Name) (m n : Name) → isIn ns m ≡ true → isIn ns n ≡ true → numbering ns m ≡ numbering ns n → m ≡ n
+pub numbers_apart : (ns : List Name) (m n : Name) → is_in ns m ≡ true → is_in ns n ≡ true → numbering ns m ≡ numbering ns n → m ≡ n
 unfolding numbering
 numbers_apart ns m n p q e = go (every is_plain ns) refl e
   where
@@ -131,4 +131,4 @@ numbers_apart ns m n p q e = go (every is_plain ns) refl e
 
     go : (b : Bool) → every is_plain ns ≡ b → cond b (plain_number m) (place_in ms m) ≡ cond b (plain_number n) (place_in ms n) → m ≡ n
     go true a e = plain_spelled m (plain_of ns m a p) ∙ ap (λ (v : ℕ). code "x" ∷ spell_number v) e ∙ sym (plain_spelled n (plain_of ns n a q))
-    go false a e = sym (name-at ms m (name-comes [] ns m p)) ∙ ap (λ (i : ℕ). get_or ms i []) e ∙ name-at ms n (name-comes [] ns n q)
+    go false a e = sym (name_at ms m (name_comes [] ns m p)) ∙ ap (λ (i : ℕ). get_or ms i []) e ∙ name_at ms n (name_comes [] ns n q)

@@ -11,7 +11,7 @@ use Rattle.ground.specs.Lists.{any, every, total, gather}
 use Rattle.ground.proofs.Tests.{and_left, and_right, and_both}
 use Rattle.limits.specs.Limits.{line_bytes, text_bytes, least_pool, least_scratch}
 use Rattle.limits.specs.Verdicts.{ACCEPTED, SHORT, LONGTEXT, NUMBER, NOGOAL, NOTREACHED}
-use Rattle.paper.specs.Statement.{Statement, modulo, ring, renamed, newIndex, namedIndices, forgets, fields, is_ring, numbersInRange}
+use Rattle.paper.specs.Statement.{Statement, modulo, ring, renamed, new_index, named_indices, forgets, fields, is_ring, numbers_in_range}
 use Rattle.paper.specs.Grammar.{Bytes, Read, got, stuck}
 use Rattle.paper.specs.Rules.{first, steps, State, start, without, stored_terms, place, entries, product_count, overfull, written_rules, rules, after}
 use Rattle.paper.specs.Answer.{Answer, Outcome, stands, refused, judge, Item, judge_item, item_of, items, report, ending, run, capacity_of, unread, answer, if_read, statements_of, statements}
@@ -138,11 +138,11 @@ module _ (f : Name → ℕ) where
 
 -- ---- the ring's line, and the text
 ring_stands : (capacity k : ℕ) → first (rules capacity start (ring (modulo k))) ≡ 0
-unfolding first rules start place newIndex namedIndices every any product_count overfull without forgets entries
+unfolding first rules start place new_index named_indices every any product_count overfull without forgets entries
 ring_stands capacity k = refl
 
 ring_written : (k : ℕ) → first (written_rules (ring (modulo k))) ≡ cond (is_ring (modulo k)) ACCEPTED NUMBER
-unfolding first written_rules numbersInRange newIndex namedIndices fields every any
+unfolding first written_rules numbers_in_range new_index named_indices fields every any
 ring_written k = go (is_ring (modulo k))
   where
     go : (b : Bool) → cond (not (((b && true) && true) && true)) NUMBER ACCEPTED ≡ cond b ACCEPTED NUMBER

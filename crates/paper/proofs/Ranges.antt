@@ -7,7 +7,7 @@ use borrow.Author.Tests.{leb-true}
 use Rattle.ground.specs.Lists.{every}
 use Rattle.ground.proofs.Tests.{and_left, and_right}
 use Rattle.limits.specs.Limits.{greatest_ring, greatest_magnitude}
-use Rattle.paper.specs.Statement.{WrittenTerm, modulo, is_ring, isVariable, isTerm}
+use Rattle.paper.specs.Statement.{WrittenTerm, modulo, is_ring, is_variable, is_term}
 
 module _ (k : ℕ) (e : is_ring (modulo k) ≡ true) where
   pub ring_some : 1 ≤ k
@@ -21,16 +21,16 @@ module _ (k : ℕ) (e : is_ring (modulo k) ≡ true) where
 pub record TermInRange (t : WrittenTerm) : Type 0 where
   pub some : 1 ≤ t.magnitude
   pub most : t.magnitude ≤ greatest_magnitude
-  pub named : every isVariable t.variables ≡ true
+  pub named : every is_variable t.variables ≡ true
 
-pub term_in_range : (t : WrittenTerm) → isTerm t ≡ true → TermInRange t
-unfolding isTerm
+pub term_in_range : (t : WrittenTerm) → is_term t ≡ true → TermInRange t
+unfolding is_term
 term_in_range t e =
     let s : Bool = leb 1 t.magnitude in
     let m : Bool = leb t.magnitude greatest_magnitude in
-    let w = and_left (s && m) (every isVariable t.variables) e in
+    let w = and_left (s && m) (every is_variable t.variables) e in
     record {
       some = leb-true 1 t.magnitude (and_left s m w);
       most = leb-true t.magnitude greatest_magnitude (and_right s m w);
-      named = and_right (s && m) (every isVariable t.variables) e;
+      named = and_right (s && m) (every is_variable t.variables) e;
     }

@@ -10,7 +10,7 @@ use Rattle.ground.specs.Lists.{any, every, gather}
 use Rattle.ground.proofs.Tests.{and_both, or_none_left, or_none_right}
 use Rattle.limits.specs.Limits.{name_bytes, greatest_magnitude, field_terms}
 use Rattle.limits.specs.Verdicts.{ACCEPTED, NUMBER, TERMS, NAMES}
-use Rattle.paper.specs.Statement.{TermOf, WrittenOf, PairOf, StatementOf, Written, Pair, ring, input, goal, lin, del, ext, renamedTerm, renamedField, renamedPair, renamed, newIndex, namedIndices, fields, within, isIndex, isVariable, isTerm, in_range, numbersInRange, tooManyTerms}
+use Rattle.paper.specs.Statement.{TermOf, WrittenOf, PairOf, StatementOf, Written, Pair, ring, input, goal, lin, del, ext, renamed_term, renamed_field, renamed_pair, renamed, new_index, named_indices, fields, within, is_index, is_variable, is_term, in_range, numbers_in_range, too_many_terms}
 use Rattle.paper.specs.Rules.{first, written_rules}
 use Rattle.paper.specs.Answer.{index_of}
 use Rattle.paper.specs.Published.{Name, Named}
@@ -21,8 +21,8 @@ use Rattle.paper.proofs.LinesBack.{good_pair, good_pairs, has_line}
 
 -- ---- what a line can say does not hang on the names
 module _ {A B : Type 0} (f : A → B) where
-  bare_renamed : (p : WrittenOf A) → bare_zero (renamedField f p) ≡ bare_zero p
-  unfolding renamedField renamedTerm bare_zero
+  bare_renamed : (p : WrittenOf A) → bare_zero (renamed_field f p) ≡ bare_zero p
+  unfolding renamed_field renamed_term bare_zero
   bare_renamed [] = refl
   bare_renamed (t ∷ []) = go t.variables
     where
@@ -32,8 +32,8 @@ module _ {A B : Type 0} (f : A → B) where
       go (v ∷ vs) = refl
   bare_renamed (t ∷ u ∷ ts) = refl
 
-  pairs_renamed : (qs : List (PairOf A)) → every good_pair (map (renamedPair f) qs) ≡ every good_pair qs
-  unfolding every renamedPair
+  pairs_renamed : (qs : List (PairOf A)) → every good_pair (map (renamed_pair f) qs) ≡ every good_pair qs
+  unfolding every renamed_pair
   pairs_renamed [] = refl
   pairs_renamed (q ∷ qs) = ap₂ (λ (x y : Bool). not x && y) (bare_renamed q.factor) (pairs_renamed qs)
 
@@ -61,16 +61,16 @@ module _ {A : Type 0} (f g : A → ℕ) where
   index_same (del i) = refl
   index_same (ext i v p) = refl
 
-  many_field : (p : WrittenOf A) → tooManyTerms (renamedField f p) ≡ tooManyTerms (renamedField g p)
-  unfolding tooManyTerms renamedField
-  many_field p = ap (ltb field_terms) (length-map p (renamedTerm f) ∙ sym (length-map p (renamedTerm g)))
+  many_field : (p : WrittenOf A) → too_many_terms (renamed_field f p) ≡ too_many_terms (renamed_field g p)
+  unfolding too_many_terms renamed_field
+  many_field p = ap (ltb field_terms) (length-map p (renamed_term f) ∙ sym (length-map p (renamed_term g)))
 
-  many_factors : (qs : List (PairOf A)) → any tooManyTerms (all_factors (map (renamedPair f) qs)) ≡ any tooManyTerms (all_factors (map (renamedPair g) qs))
-  unfolding any renamedPair
+  many_factors : (qs : List (PairOf A)) → any too_many_terms (all_factors (map (renamed_pair f) qs)) ≡ any too_many_terms (all_factors (map (renamed_pair g) qs))
+  unfolding any renamed_pair
   many_factors [] = refl
   many_factors (q ∷ qs) = ap₂ ◌||◌ (many_field q.factor) (many_factors qs)
 
-  pub many_same : (st : StatementOf A) → any tooManyTerms (fields (renamed f st)) ≡ any tooManyTerms (fields (renamed g st))
+  pub many_same : (st : StatementOf A) → any too_many_terms (fields (renamed f st)) ≡ any too_many_terms (fields (renamed g st))
   unfolding any fields renamed
   many_same (ring r) = refl
   many_same (input i p) = ap (λ (b : Bool). b || false) (many_field p)
@@ -98,8 +98,8 @@ none_append g xs ys e =
 abbrev zeroed : Name → ℕ
 zeroed n = 0
 
-zeroed_in_range : (ns : List Name) → every isVariable (map zeroed ns) ≡ true
-unfolding every isVariable
+zeroed_in_range : (ns : List Name) → every is_variable (map zeroed ns) ≡ true
+unfolding every is_variable
 zeroed_in_range [] = refl
 zeroed_in_range (n ∷ ns) = zeroed_in_range ns
 
@@ -107,55 +107,55 @@ module _ (f : Name → ℕ) where
   abbrev pub NoneBad : List Name → Type 0
   NoneBad ns = any (bad_name f) ns ≡ false
 
-  variable_good : (n : Name) → bad_name f n ≡ false → isVariable (f n) ≡ true
+  variable_good : (n : Name) → bad_name f n ≡ false → is_variable (f n) ≡ true
   unfolding bad_name
-  variable_good n e = not-false (isVariable (f n)) (or_none_right (ltb name_bytes (length n)) (not (isVariable (f n))) e)
+  variable_good n e = not-false (is_variable (f n)) (or_none_right (ltb name_bytes (length n)) (not (is_variable (f n))) e)
 
-  variables_good : (ns : List Name) → NoneBad ns → every isVariable (map f ns) ≡ true
+  variables_good : (ns : List Name) → NoneBad ns → every is_variable (map f ns) ≡ true
   unfolding any every
   variables_good [] e = refl
   variables_good (n ∷ ns) e =
-      and_both (isVariable (f n)) (every isVariable (map f ns)) (variable_good n (or_none_left (bad_name f n) (any (bad_name f) ns) e))
+      and_both (is_variable (f n)) (every is_variable (map f ns)) (variable_good n (or_none_left (bad_name f n) (any (bad_name f) ns) e))
       (variables_good ns (or_none_right (bad_name f n) (any (bad_name f) ns) e))
 
-  term_range : (t : TermOf Name) → NoneBad t.variables → isTerm (renamedTerm f t) ≡ isTerm (renamedTerm zeroed t)
-  unfolding isTerm renamedTerm
+  term_range : (t : TermOf Name) → NoneBad t.variables → is_term (renamed_term f t) ≡ is_term (renamed_term zeroed t)
+  unfolding is_term renamed_term
   term_range t e = ap (λ (b : Bool). within 1 greatest_magnitude t.magnitude && b) (variables_good t.variables e ∙ sym (zeroed_in_range t.variables))
 
-  field_range : (p : WrittenOf Name) → NoneBad (names_of p) → in_range (renamedField f p) ≡ in_range (renamedField zeroed p)
-  unfolding names_of gather in_range every renamedField
+  field_range : (p : WrittenOf Name) → NoneBad (names_of p) → in_range (renamed_field f p) ≡ in_range (renamed_field zeroed p)
+  unfolding names_of gather in_range every renamed_field
   field_range [] e = refl
   field_range (t ∷ p) e =
       let d = none_append (bad_name f) t.variables (names_of p) e in
       ap₂ ◌&&◌ (term_range t d.0) (field_range p d.1)
 
   factors_range : (qs : List (PairOf Name)) → NoneBad (gather (λ q. names_of q.factor) qs)
-      → every in_range (all_factors (map (renamedPair f) qs)) ≡ every in_range (all_factors (map (renamedPair zeroed) qs))
-  unfolding gather every renamedPair
+      → every in_range (all_factors (map (renamed_pair f) qs)) ≡ every in_range (all_factors (map (renamed_pair zeroed) qs))
+  unfolding gather every renamed_pair
   factors_range [] e = refl
   factors_range (q ∷ qs) e =
       let d = none_append (bad_name f) (names_of q.factor) (gather (λ q. names_of q.factor) qs) e in
       ap₂ ◌&&◌ (field_range q.factor d.0) (factors_range qs d.1)
 
-  indices_same : (qs : List (PairOf Name)) → map (λ q. q.index) (map (renamedPair f) qs) ≡ map (λ q. q.index) (map (renamedPair zeroed) qs)
-  unfolding renamedPair
+  indices_same : (qs : List (PairOf Name)) → map (λ q. q.index) (map (renamed_pair f) qs) ≡ map (λ q. q.index) (map (renamed_pair zeroed) qs)
+  unfolding renamed_pair
   indices_same [] = refl
   indices_same (q ∷ qs) = ap (λ (is : List ℕ). q.index ∷ is) (indices_same qs)
 
-  pub numbers_same : (st : Named) → NoneBad (names_in st) → numbersInRange (renamed f st) ≡ numbersInRange (renamed zeroed st)
-  unfolding names_in numbersInRange renamed newIndex namedIndices fields every isVariable any
+  pub numbers_same : (st : Named) → NoneBad (names_in st) → numbers_in_range (renamed f st) ≡ numbers_in_range (renamed zeroed st)
+  unfolding names_in numbers_in_range renamed new_index named_indices fields every is_variable any
   numbers_same (ring r) e = refl
-  numbers_same (input i p) e = ap (λ (b : Bool). (isIndex i && true) && (b && true)) (field_range p e)
+  numbers_same (input i p) e = ap (λ (b : Bool). (is_index i && true) && (b && true)) (field_range p e)
   numbers_same (goal p) e = ap (λ (b : Bool). b && true) (field_range p e)
   numbers_same (lin i p qs) e =
       let d = none_append (bad_name f) (gather (λ q. names_of q.factor) qs) (names_of p) e in
-      ap₂ ◌&&◌ (ap (λ (is : List ℕ). isIndex i && every isIndex is) (indices_same qs)) (ap₂ ◌&&◌ (field_range p d.1) (factors_range qs d.0))
+      ap₂ ◌&&◌ (ap (λ (is : List ℕ). is_index i && every is_index is) (indices_same qs)) (ap₂ ◌&&◌ (field_range p d.1) (factors_range qs d.0))
   numbers_same (del i) e = refl
   numbers_same (ext i v p) e =
-      ap₂ (λ (x y : Bool). (x && (isIndex i && true)) && (y && true)) (variable_good v (or_none_left (bad_name f v) (any (bad_name f) (names_of p)) e))
+      ap₂ (λ (x y : Bool). (x && (is_index i && true)) && (y && true)) (variable_good v (or_none_left (bad_name f v) (any (bad_name f) (names_of p)) e))
       (field_range p (or_none_right (bad_name f v) (any (bad_name f) (names_of p)) e))
 
   pub written_same : (st : Named) → NoneBad (names_in st) → first (named_rules f st) ≡ first (written_rules (renamed f st))
   unfolding first named_rules written_rules
   written_same st e =
-      ap₂ (λ (n b : Bool). cond (not n) NUMBER (cond (any tooManyTerms (fields (renamed f st))) TERMS (cond b NAMES ACCEPTED))) (sym (numbers_same st e)) e
+      ap₂ (λ (n b : Bool). cond (not n) NUMBER (cond (any too_many_terms (fields (renamed f st))) TERMS (cond b NAMES ACCEPTED))) (sym (numbers_same st e)) e

@@ -17,7 +17,7 @@ use Rattle.algebra.proofs.Bit.{equal_true}
 use Rattle.algebra.proofs.Variables.{vars_extension}
 use Rattle.algebra.proofs.Derivation.{zero_left, zero_right, zero_both}
 use Rattle.limits.specs.Verdicts.{SEEN, MISMATCH, NOTBIT}
-use Rattle.paper.specs.Statement.{Written, Pair, modulo, Statement, ring, input, goal, lin, del, ext, onInput, onExt, forgets, fields, reduced}
+use Rattle.paper.specs.Statement.{Written, Pair, modulo, Statement, ring, input, goal, lin, del, ext, on_input, on_ext, forgets, fields, reduced}
 use Rattle.paper.specs.Rules.{inputs, steps, find, remove, State, place, entries, shows, shows_all, makes_seen, combination, holds_goal, without, rules, after}
 use Rattle.paper.specs.Answer.{inputs_in, goal_in, introduced_in, defined_in}
 use Rattle.paper.proofs.Stands.{Stands, stands_none}
@@ -26,7 +26,7 @@ use Rattle.paper.proofs.Zeros.{StoreZero, zero_append, zero_remove, zero_goal, z
 
 -- the variable that a statement defines
 abbrev defines : Statement → ℕ
-defines = onExt 0 (λ i v p. 2 ^ v)
+defines = on_ext 0 (λ i v p. 2 ^ v)
 
 -- the goal that is in force, or is still to come
 abbrev aim_of : ℕ → State → List Statement → Poly
@@ -79,7 +79,7 @@ module _ (k : ℕ) where
   module _ (s : State) where
     abbrev Next : Statement → List Poly → ℕ → List Poly → Type 0
     Next st is es ps =
-        Good (after (with_ring k s) st) (onInput [] (λ i p. reduced k p ∷ []) st ++ is) (onExt es (λ i v p. bit_or (2 ^ v) es) st) (map (λ e. e.poly) (entries k st) ++ ps)
+        Good (after (with_ring k s) st) (on_input [] (λ i p. reduced k p ∷ []) st ++ is) (on_ext es (λ i v p. bit_or (2 ^ v) es) st) (map (λ e. e.poly) (entries k st) ++ ps)
 
     old : (st : Statement) (v : ℕ) → bit s.seen v ≤ bit (after (with_ring k s) st).seen v
     unfolding after
@@ -207,7 +207,7 @@ module _ (k : ℕ) where
     pub only : (w : ℕ) → bit es w ≡ 0 → bit (defined_in sts) w ≡ 0 → bit defined' w ≡ 0
     pub aim : aim_of k e [] ≡ aim_of k s sts
 
-  none_defined : (st : Statement) (es w : ℕ) → bit es w ≡ 0 → bit (defines st) w ≡ 0 → bit (onExt es (λ i v p. bit_or (2 ^ v) es) st) w ≡ 0
+  none_defined : (st : Statement) (es w : ℕ) → bit es w ≡ 0 → bit (defines st) w ≡ 0 → bit (on_ext es (λ i v p. bit_or (2 ^ v) es) st) w ≡ 0
   none_defined (ring j) es w h d = h
   none_defined (input i p) es w h d = h
   none_defined (goal p) es w h d = h
@@ -226,13 +226,13 @@ module _ (k : ℕ) where
         g.ringed go g h rest
       where
         mine : List Poly
-        mine = onInput [] (λ i p. reduced k p ∷ []) st
+        mine = on_input [] (λ i p. reduced k p ∷ []) st
 
         made : List Poly
         made = map (λ e. e.poly) (entries k st)
 
         es' : ℕ
-        es' = onExt es (λ i v p. bit_or (2 ^ v) es) st
+        es' = on_ext es (λ i v p. bit_or (2 ^ v) es) st
 
         go : Good (with_ring k s) is es ps → Stands capacity (with_ring k s) st
             → ((is : List Poly) (es : ℕ) (ps : List Poly) → Good (after (with_ring k s) st) is es ps → Final (after (with_ring k s) st) sts is es ps e)

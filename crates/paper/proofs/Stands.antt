@@ -9,7 +9,7 @@ use borrow.Author.Tests.{ltb-true, eqb-true, not-false}
 use Rattle.ground.specs.Lists.{every, any}
 use Rattle.ground.proofs.Tests.{and_left, and_right, by_cond}
 use Rattle.limits.specs.Verdicts.{ORDER, TAKEN, MISSING}
-use Rattle.paper.specs.Statement.{Statement, newIndex, namedIndices}
+use Rattle.paper.specs.Statement.{Statement, new_index, named_indices}
 use Rattle.paper.specs.Rules.{State, stored, place, first, rules}
 
 -- ---- any table
@@ -32,8 +32,8 @@ none_refuses (r ∷ rs) h e v =
 -- ---- the table of statements
 pub record Stands (capacity : ℕ) (s : State) (st : Statement) : Type 0 where
   pub placed : place st ≡ s.phase
-  pub free : any (stored s.store) (newIndex st) ≡ false
-  pub present : every (stored s.store) (namedIndices st) ≡ true
+  pub free : any (stored s.store) (new_index st) ≡ false
+  pub present : every (stored s.store) (named_indices st) ≡ true
   pub passed : (v : ℕ) → test_of v (rules capacity s st) ≡ false
 
 pub stands_none : (capacity : ℕ) (s : State) (st : Statement) → first (rules capacity s st) ≡ 0 → Stands capacity s st
@@ -43,6 +43,6 @@ stands_none capacity s st e =
     record {
       placed = eqb-true (place st) s.phase (not-false (eqb (place st) s.phase) (n ORDER));
       free = n TAKEN;
-      present = not-false (every (stored s.store) (namedIndices st)) (n MISSING);
+      present = not-false (every (stored s.store) (named_indices st)) (n MISSING);
       passed = n;
     }

@@ -6,7 +6,7 @@ use Rattle.limits.specs.Limits.{text_bytes, line_bytes, term_words, least_pool, 
 use Rattle.limits.specs.Verdicts.{ACCEPTED, SHORT, LONGTEXT, LONGLINE, FORM, TERMS, NOGOAL, NOTREACHED}
 use Rattle.ground.specs.Lists.{any, total, gather}
 use Rattle.algebra.specs.Polynomial.{Poly}
-use Rattle.paper.specs.Statement.{bits, Statement, ring, input, goal, lin, del, ext, onRing, onInput, onGoal, onExt, forgets, reduced}
+use Rattle.paper.specs.Statement.{bits, Statement, ring, input, goal, lin, del, ext, on_ring, on_input, on_goal, on_ext, forgets, reduced}
 use Rattle.paper.specs.Grammar.{Bytes, Line, lines, Read, got, stuck, statement}
 use Rattle.paper.specs.Rules.{first, steps, stored_terms, State, start, stored, find, written_rules, rules, after, entries, product_count}
 
@@ -103,12 +103,12 @@ accepted text pool = accepted_from (capacity_of pool) start [] (items text)
 
 unfoldable pub ring_in : List Statement → ℕ
 ring_in [] = 0
-ring_in (st ∷ sts) = onRing (ring_in sts) bits st
+ring_in (st ∷ sts) = on_ring (ring_in sts) bits st
 
 -- the variables that ext lines define
 unfoldable pub defined_in : List Statement → ℕ
 defined_in [] = 0
-defined_in (st ∷ sts) = bit_or (onExt 0 (λ i v p. 2 ^ v) st) (defined_in sts)
+defined_in (st ∷ sts) = bit_or (on_ext 0 (λ i v p. 2 ^ v) st) (defined_in sts)
 
 -- a sum over accepted statements; f takes those before and the statement
 unfoldable pub sum_over : (List Statement → Statement → ℕ) → List Statement → ℕ
@@ -120,11 +120,11 @@ deleted_polynomials = sum_over (λ h st. length (forgets st))
 
 module _ (k : ℕ) where
   unfoldable pub inputs_in : List Statement → List Poly
-  inputs_in sts = gather (onInput [] (λ i p. reduced k p ∷ [])) sts
+  inputs_in sts = gather (on_input [] (λ i p. reduced k p ∷ [])) sts
 
   unfoldable pub goal_in : List Statement → Poly
   goal_in [] = []
-  goal_in (st ∷ sts) = onGoal (goal_in sts) (λ p. reduced k p) st
+  goal_in (st ∷ sts) = on_goal (goal_in sts) (λ p. reduced k p) st
 
   -- the polynomials of the in, lin and ext lines
   unfoldable pub introduced_in : List Statement → List Poly

@@ -5,7 +5,7 @@ use lib.{Dec.eqb, Dec.ltb, ListN.length}
 use Rattle.limits.specs.Limits.{name_bytes, text_bytes, least_pool, least_scratch}
 use Rattle.limits.specs.Verdicts.{ACCEPTED, SHORT, LONGTEXT, NUMBER, TERMS, NAMES}
 use Rattle.ground.specs.Lists.{any, every, gather}
-use Rattle.paper.specs.Statement.{WrittenOf, Statement, modulo, ring, input, goal, lin, del, ext, renamed, fields, is_ring, isVariable, numbersInRange, tooManyTerms}
+use Rattle.paper.specs.Statement.{WrittenOf, Statement, modulo, ring, input, goal, lin, del, ext, renamed, fields, is_ring, is_variable, numbers_in_range, too_many_terms}
 use Rattle.paper.specs.Grammar.{Bytes, bytes, got, stuck, Reader, ◌>>=◌, ◌>>◌, give, literal, end, decimal}
 use Rattle.paper.specs.Rules.{first, start, after}
 use Rattle.paper.specs.Answer.{Answer, Item, run, capacity_of, unread, statements_of, accepted_from}
@@ -31,7 +31,7 @@ unfoldable pub plain_number : Name → ℕ
 plain_number n = elim (after_x n) [ got v r ↦ v | stuck r ↦ 0 ]
 
 unfoldable pub is_plain : Name → Bool
-is_plain n = elim (after_x n) [ got v r ↦ isVariable v | stuck r ↦ false ]
+is_plain n = elim (after_x n) [ got v r ↦ is_variable v | stuck r ↦ false ]
 
 -- else its place among the names as they first appear
 unfoldable pub same_name : Name → Name → Bool
@@ -55,12 +55,12 @@ numbering ns n = cond (every is_plain ns) (plain_number n) (place_in (with_names
 -- ---- the statement with its numbers; a number is an id or a coefficient here, names have a rule of their own
 module _ (f : Name → ℕ) where
   unfoldable pub bad_name : Name → Bool
-  bad_name n = ltb name_bytes (length n) || not (isVariable (f n))
+  bad_name n = ltb name_bytes (length n) || not (is_variable (f n))
 
   unfoldable pub named_rules : Named → List (ℕ × Bool)
   named_rules st =
-      (NUMBER, not (numbersInRange (renamed (λ n. 0) st)))
-      ∷ (TERMS, any tooManyTerms (fields (renamed f st)))
+      (NUMBER, not (numbers_in_range (renamed (λ n. 0) st)))
+      ∷ (TERMS, any too_many_terms (fields (renamed f st)))
       ∷ (NAMES, any bad_name (names_in st))
       ∷ []
 

@@ -6,7 +6,7 @@ use Rattle.limits.specs.Limits.{stored_polynomials, line_products}
 use Rattle.limits.specs.Verdicts.{ACCEPTED, NUMBER, TERMS, ORDER, TAKEN, MISSING, SEEN, PRODUCTS, MISMATCH, NOTBIT, FULL}
 use Rattle.ground.specs.Lists.{any, total, every}
 use Rattle.algebra.specs.Polynomial.{Poly, vars, equal, products, reduce, product, extension, has}
-use Rattle.paper.specs.Statement.{Written, Pair, Ring, modulo, bits, Statement, ring, input, goal, lin, del, ext, onRing, onInput, onGoal, onLin, onExt, newIndex, namedIndices, forgets, fields, numbersInRange, tooManyTerms, reduced}
+use Rattle.paper.specs.Statement.{Written, Pair, Ring, modulo, bits, Statement, ring, input, goal, lin, del, ext, on_ring, on_input, on_goal, on_lin, on_ext, new_index, named_indices, forgets, fields, numbers_in_range, too_many_terms, reduced}
 
 -- ---- the state between two lines
 -- the phases: before the ring line, before the goal line, after it
@@ -88,7 +88,7 @@ module _ (k : ℕ) where
 
   -- the variables that a statement makes seen: those of its fields, and the v of an ext
   unfoldable pub makes_seen : Statement → ℕ
-  makes_seen st = bit_or (onExt 0 (λ i v p. 2 ^ v) st) (shows_all (fields st))
+  makes_seen st = bit_or (on_ext 0 (λ i v p. 2 ^ v) st) (shows_all (fields st))
 
   -- the sum of factor times named polynomial
   unfoldable pub combination : (ℕ → Poly) → List Pair → Poly
@@ -97,8 +97,8 @@ module _ (k : ℕ) where
 
   unfoldable pub product_count : (ℕ → Poly) → Statement → ℕ
   product_count named st =
-      onLin 0 (λ i p qs. total (λ q. length (reduced k q.factor) * length (named q.index)) qs) st
-      + onExt 0 (λ i v p. length (reduced k p) * length (reduced k p)) st
+      on_lin 0 (λ i p qs. total (λ q. length (reduced k q.factor) * length (named q.index)) qs) st
+      + on_ext 0 (λ i v p. length (reduced k p) * length (reduced k p)) st
 
 -- no room for the entries beside the store in a pool of so many terms
 unfoldable pub overfull : ℕ → Store → Store → Bool
@@ -112,19 +112,19 @@ first (r ∷ rs) = let rest : ℕ = first rs in cond r.1 r.0 rest
 
 -- those that what is written decides alone
 unfoldable pub written_rules : Statement → List (ℕ × Bool)
-written_rules st = (NUMBER, not (numbersInRange st)) ∷ (TERMS, any tooManyTerms (fields st)) ∷ []
+written_rules st = (NUMBER, not (numbers_in_range st)) ∷ (TERMS, any too_many_terms (fields st)) ∷ []
 
 -- and behind them those that the state decides
 unfoldable pub rules : ℕ → State → Statement → List (ℕ × Bool)
 rules capacity s st =
     let k : ℕ = bits s.ring in
     (ORDER, not (eqb (place st) s.phase))
-    ∷ (TAKEN, any (stored s.store) (newIndex st))
-    ∷ (MISSING, not (every (stored s.store) (namedIndices st)))
-    ∷ (SEEN, onExt false (λ i v p. has (bit_or (shows k p) s.seen) v) st)
+    ∷ (TAKEN, any (stored s.store) (new_index st))
+    ∷ (MISSING, not (every (stored s.store) (named_indices st)))
+    ∷ (SEEN, on_ext false (λ i v p. has (bit_or (shows k p) s.seen) v) st)
     ∷ (PRODUCTS, ltb line_products (product_count k (find s.store) st))
-    ∷ (MISMATCH, onLin false (λ i p qs. not (equal (reduced k p) (reduce k (combination k (find s.store) qs)))) st)
-    ∷ (NOTBIT, onExt false (λ i v p. not (equal (product k (reduced k p) (reduced k p)) (reduced k p))) st)
+    ∷ (MISMATCH, on_lin false (λ i p qs. not (equal (reduced k p) (reduce k (combination k (find s.store) qs)))) st)
+    ∷ (NOTBIT, on_ext false (λ i v p. not (equal (product k (reduced k p) (reduced k p)) (reduced k p))) st)
     ∷ (FULL, overfull capacity (without (forgets st) s.store) (entries k st))
     ∷ []
 
@@ -136,11 +136,11 @@ unfoldable pub after : State → Statement → State
 after s st =
     let k : ℕ = bits s.ring in
     record {
-      phase = onRing (onGoal s.phase (λ p. steps) st) (λ r. inputs) st;
-      ring = onRing s.ring (λ r. r) st;
+      phase = on_ring (on_goal s.phase (λ p. steps) st) (λ r. inputs) st;
+      ring = on_ring s.ring (λ r. r) st;
       store = without (forgets st) s.store ++ entries k st;
       seen = bit_or (makes_seen k st) s.seen;
-      goal = onGoal s.goal (λ p. reduced k p) st;
-      reached = onGoal (onInput (s.reached || holds_goal s.goal (entries k st)) (λ i p. false) st) (λ p. holds_goal (reduced k p) s.store) st;
+      goal = on_goal s.goal (λ p. reduced k p) st;
+      reached = on_goal (on_input (s.reached || holds_goal s.goal (entries k st)) (λ i p. false) st) (λ p. holds_goal (reduced k p) s.store) st;
       products = s.products + product_count k (find s.store) st;
     }

@@ -6,7 +6,7 @@ use Rattle.limits.specs.Limits.{variables, line_bytes, least_spelling_scratch}
 use Rattle.limits.specs.Verdicts.{ACCEPTED, SHORT, LONGLINE, FORM, NUMBER, TERMS, FULL}
 use Rattle.ground.specs.Lists.{gather}
 use Rattle.algebra.specs.Polynomial.{members, Term, Poly}
-use Rattle.paper.specs.Statement.{Written, modulo, is_ring, in_range, tooManyTerms, reduced}
+use Rattle.paper.specs.Statement.{Written, modulo, is_ring, in_range, too_many_terms, reduced}
 use Rattle.paper.specs.Grammar.{Bytes, bytes, Read, got, stuck, Reader, ◌>>=◌, ◌>>◌, give, end, polynomial}
 use Rattle.paper.specs.Rules.{first}
 
@@ -43,7 +43,7 @@ refuse v = record { verdict = v; spelling = [] }
 unfoldable pub spelling_rules : ℕ → ℕ → Written → List (ℕ × Bool)
 spelling_rules k room p =
     (NUMBER, not (is_ring (modulo k) && in_range p))
-    ∷ (TERMS, tooManyTerms p)
+    ∷ (TERMS, too_many_terms p)
     ∷ (FULL, ltb room (length (spell k (reduced k p))))
     ∷ []
 

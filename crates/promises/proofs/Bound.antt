@@ -19,7 +19,7 @@ use Rattle.algebra.specs.Polynomial.{members, Term, Poly, put, insert, reduce, R
 use Rattle.algebra.proofs.Reduced.{reduced_reduce}
 use Rattle.algebra.proofs.Sums.{bound, below_bound}
 use Rattle.paper.specs.Grammar.{Bytes, bytes, got}
-use Rattle.paper.specs.Statement.{WrittenTerm, Written, setOf, asTerm, reduced}
+use Rattle.paper.specs.Statement.{WrittenTerm, Written, set_of, as_term, reduced}
 use Rattle.paper.specs.Spelling.{spell_number, spell_coefficient, spell_term, spell, whole_field}
 use Rattle.writer.specs.Writing.{dotted, spaced}
 use Rattle.promises.proofs.Lengths.{digit_count, number_le, number_sum, set_length, set_length_law, term_length, field_length}
@@ -88,8 +88,8 @@ module _ (k : ℕ) (some : 1 ≤ k) where
           (λ t. omega (arith, size_minus r, ltb-false (r + (n - d)) (2 ^ k) t))
           (split (ltb (r + (n - d)) (2 ^ k)))
 
-  term_sum : (t : WrittenTerm) (d : ℕ) → d < 2 ^ k → size (((asTerm k t).coef + d) % 2 ^ k) ≤ t.magnitude + size d
-  unfolding asTerm
+  term_sum : (t : WrittenTerm) (d : ℕ) → d < 2 ^ k → size (((as_term k t).coef + d) % 2 ^ k) ≤ t.magnitude + size d
+  unfolding as_term
   term_sum t d h = go t.negative
     where
       m : ℕ
@@ -104,9 +104,9 @@ module _ (k : ℕ) (some : 1 ≤ k) where
       go true = sum_minus ((2 ^ k - 1) * m) m d none h
       go false = sum_plus m d h
 
-  term_alone : (t : WrittenTerm) → size ((asTerm k t).coef % 2 ^ k) ≤ t.magnitude
+  term_alone : (t : WrittenTerm) → size ((as_term k t).coef % 2 ^ k) ≤ t.magnitude
   term_alone t =
-      omega (arith, term_sum t 0 (pow_pos k), ap (λ (c : ℕ). size (c % 2 ^ k)) (add-zero (asTerm k t).coef), size_plus 0)
+      omega (arith, term_sum t 0 (pow_pos k), ap (λ (c : ℕ). size (c % 2 ^ k)) (add-zero (as_term k t).coef), size_plus 0)
 
   -- ---- a term with a space and a sign, whether it has them or not
   weight : Term → ℕ
@@ -152,30 +152,30 @@ module _ (k : ℕ) (some : 1 ≤ k) where
     abbrev added : ℕ → ℕ
     added m = 2 + digit_count t.magnitude + set_length variables 0 m
 
-    put_alone : (m : ℕ) (p : Poly) → total weight (put k m (asTerm k t).coef p) ≤ added m + total weight p
-    put_alone m p = omega (arith, put_weight m (asTerm k t).coef p, number_le (size ((asTerm k t).coef % 2 ^ k)) t.magnitude (term_alone t))
+    put_alone : (m : ℕ) (p : Poly) → total weight (put k m (as_term k t).coef p) ≤ added m + total weight p
+    put_alone m p = omega (arith, put_weight m (as_term k t).coef p, number_le (size ((as_term k t).coef % 2 ^ k)) t.magnitude (term_alone t))
 
-    insert_weight : (b m : ℕ) (p : Poly) → Reduced k b p → total weight (insert k m (asTerm k t).coef p) ≤ added m + total weight p
+    insert_weight : (b m : ℕ) (p : Poly) → Reduced k b p → total weight (insert k m (as_term k t).coef p) ≤ added m + total weight p
     unfolding insert total weight
     insert_weight b m [] r = put_alone m []
     insert_weight b m (u ∷ p) r =
-        let c : ℕ = (asTerm k t).coef in
+        let c : ℕ = (as_term k t).coef in
         by_cond (λ (q : Poly). total weight q ≤ added m + total weight (u ∷ p)) (eqb m u.set)
         (λ e. omega (arith, put_weight m (c + u.coef) p, number_sum (size ((c + u.coef) % 2 ^ k)) t.magnitude (size u.coef) (term_sum t u.coef r.2)))
         (λ e. by_cond (λ (q : Poly). total weight q ≤ added m + total weight (u ∷ p)) (ltb u.set m)
         (λ l. put_alone m (u ∷ p))
         (λ l. omega (arith, insert_weight u.set m p r.3)))
 
-  reduce_weight : (f : Written) → total weight (reduce k (map (asTerm k) f)) ≤ total (λ t. suc (suc (term_length t))) f
-  unfolding reduce total asTerm
+  reduce_weight : (f : Written) → total weight (reduce k (map (as_term k) f)) ≤ total (λ t. suc (suc (term_length t))) f
+  unfolding reduce total as_term
   reduce_weight [] = omega arith
   reduce_weight (t ∷ f) =
-      let p : Poly = map (asTerm k) f in
+      let p : Poly = map (as_term k) f in
       let r = reduced_reduce k (bound p) p (below_bound (bound p) p (omega arith)) in
-      omega (arith, insert_weight t (bound p) (setOf t.variables) (reduce k p) r, set_length_law t.variables, reduce_weight f)
+      omega (arith, insert_weight t (bound p) (set_of t.variables) (reduce k p) r, set_length_law t.variables, reduce_weight f)
 
   pub field_bound : (s : Bytes) (f : Written) → whole_field s ≡ got f [] → length (spell k (reduced k f)) ≤ length s + length f
   unfolding reduced
   field_bound s f e =
       let h = field_length s f e in
-      omega (arith, h.0, h.1, spelled_length (reduce k (map (asTerm k) f)), reduce_weight f, total_more (λ t. suc (term_length t)) f)
+      omega (arith, h.0, h.1, spelled_length (reduce k (map (as_term k) f)), reduce_weight f, total_more (λ t. suc (term_length t)) f)

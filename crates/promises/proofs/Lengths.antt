@@ -18,7 +18,7 @@ use Rattle.limits.specs.Limits.{variables}
 use Rattle.algebra.specs.Polynomial.{members}
 use Rattle.words.proofs.Laws.{members_none}
 use Rattle.paper.specs.Grammar.{Bytes, got, stuck, Reader, next, end, up_to, is_digit, digits, decimal, sign, term, as_written, polynomial}
-use Rattle.paper.specs.Statement.{WrittenTerm, Written, setOf}
+use Rattle.paper.specs.Statement.{WrittenTerm, Written, set_of}
 use Rattle.paper.specs.Spelling.{spell_number, whole_field}
 use Rattle.paper.proofs.Numbers.{number_small, number_more, number_some, number_least, number_most}
 use Rattle.paper.proofs.Reading.{clash, parted}
@@ -116,10 +116,10 @@ set_or (suc n) v (suc j) m =
     set_alike n v (variable_length (v + suc j)) (bit_or (2 ^ suc j) m) m (omega arith)
     (rw (o, add-suc v j, ← suc-add v j) (set_or n (suc v) j (m / 2)))
 
-pub set_length_law : (vs : List ℕ) → set_length variables 0 (setOf vs) ≤ total variable_length vs
-unfolding setOf total
+pub set_length_law : (vs : List ℕ) → set_length variables 0 (set_of vs) ≤ total variable_length vs
+unfolding set_of total
 set_length_law [] = omega (arith, ap (total variable_length) (members_none variables 0))
-set_length_law (v ∷ vs) = omega (arith, set_or variables 0 v (setOf vs), ap variable_length (zero-add v), set_length_law vs)
+set_length_law (v ∷ vs) = omega (arith, set_or variables 0 v (set_of vs), ap variable_length (zero-add v), set_length_law vs)
 
 -- ---- readers
 digits_length : (v : ℕ) (s : Bytes) (n : ℕ) (r : Bytes) → digits v s ≡ got n r → digit_count n + length r ≤ length s + digit_count v

@@ -13,7 +13,7 @@ use Rattle.ground.proofs.Tests.{split, by_cond, and_left, and_right, cond_no}
 use Rattle.limits.specs.Limits.{line_bytes, field_terms, least_spelling_scratch}
 use Rattle.limits.specs.Verdicts.{ACCEPTED, SHORT, LONGLINE, FORM, NUMBER, TERMS, FULL}
 use Rattle.paper.specs.Grammar.{Bytes, Read, got, stuck}
-use Rattle.paper.specs.Statement.{Written, modulo, is_ring, in_range, tooManyTerms, reduced}
+use Rattle.paper.specs.Statement.{Written, modulo, is_ring, in_range, too_many_terms, reduced}
 use Rattle.paper.specs.Spelling.{Spelled, refuse, spell, spell_read, whole_field, spell_field, output_after}
 use Rattle.paper.proofs.Ranges.{ring_some}
 use Rattle.speller.specs.Spells.{Gives, fitted, Accepts}
@@ -28,7 +28,7 @@ use Rattle.promises.proofs.Spelling.{read_back, reduced_few, reduced_field, one_
 module _ (P : Spelled → Type 0) (field : Bytes) (k room : ℕ) (refused : (v : ℕ) → (v ≡ ACCEPTED → ⊥) → (v ≡ FULL → ⊥) → P (refuse v))
     (fits : length field ≤ line_bytes → is_ring (modulo k) ≡ true → (f : Written) → Says field f → P (fitted (spell k (reduced k f)) room)) where
   by_read : length field ≤ line_bytes → (r : Read Written) → whole_field field ≡ r → P (spell_read k room r)
-  unfolding spell_read tooManyTerms
+  unfolding spell_read too_many_terms
   by_read l (stuck s) e = refused FORM (λ z. omega arith) (λ z. omega arith)
   by_read l (got f s) e =
       let w = whole_polynomial field f s e in
@@ -38,7 +38,7 @@ module _ (P : Spelled → Type 0) (field : Bytes) (k room : ℕ) (refused : (v :
       (λ t. subst P (sym (request_terms k room f r t)) (refused TERMS (λ z. omega arith) (λ z. omega arith)))
       (λ t. subst P (sym (request_fitted k room f r t)) (fits l (and_left (is_ring (modulo k)) (in_range f) r) f
       (record { reads = e ∙ ap (got f) w.1; range = and_right (is_ring (modulo k)) (in_range f) r; few = ltb-false field_terms (length f) t })))
-      (split (tooManyTerms f)))
+      (split (too_many_terms f)))
       (λ r. subst P (sym (request_number k room f r)) (refused NUMBER (λ z. omega arith) (λ z. omega arith)))
       (split (is_ring (modulo k) && in_range f)))
 
@@ -104,7 +104,7 @@ spelled_reads_back field k s w =
 -- a field with room for its spelling
 field_spelled : (s : Bytes) (k scratch room : ℕ) (f : Written) → is_ring (modulo k) ≡ true → Says s f → least_spelling_scratch ≤ scratch → length s ≤ line_bytes
     → length (spell k (reduced k f)) ≤ room → spell_field s k scratch room ≡ record { verdict = ACCEPTED; spelling = spell k (reduced k f) }
-unfolding spell_field fitted tooManyTerms
+unfolding spell_field fitted too_many_terms
 field_spelled s k scratch room f e y h l r =
     rw (le-ltb scratch least_spelling_scratch h, le-ltb line_bytes (length s) l)
     (accepted_fitted s k room a ∙ cond_no (ltb room (length (spell k (reduced k f)))) (refuse FULL) _ (le-ltb room (length (spell k (reduced k f))) r))

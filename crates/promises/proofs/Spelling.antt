@@ -16,7 +16,7 @@ use Rattle.algebra.specs.Polynomial.{members, Term, Poly, value, put, insert, re
 use Rattle.algebra.proofs.Reduced.{reduced_reduce}
 use Rattle.algebra.proofs.OneForm.{one_form}
 use Rattle.paper.specs.Grammar.{got}
-use Rattle.paper.specs.Statement.{Written, within, modulo, is_ring, isVariable, isTerm, in_range, asTerm, reduced}
+use Rattle.paper.specs.Statement.{Written, within, modulo, is_ring, is_variable, is_term, in_range, as_term, reduced}
 use Rattle.paper.specs.Spelling.{spell, whole_field}
 use Rattle.paper.proofs.Ranges.{ring_most}
 use Rattle.paper.proofs.ReadBack.{written_term, spell_back}
@@ -25,13 +25,13 @@ use Rattle.reader.proofs.Numbers.{within_yes}
 use Rattle.promises.specs.Promises.{ReadBack}
 
 -- ---- the numbers of a spelling
-members_range : (n v m : ℕ) → v + n ≤ variables → every isVariable (members n v m) ≡ true
-unfolding members every isVariable
+members_range : (n v m : ℕ) → v + n ≤ variables → every is_variable (members n v m) ≡ true
+unfolding members every is_variable
 members_range zero v m h = refl
 members_range (suc n) v m h =
     let ih = members_range n (suc v) (m / 2) (omega arith) in
-    by_cond (λ (l : List ℕ). every isVariable l ≡ true) (eqb (m % 2) 1)
-    (λ _. and_both (isVariable v) (every isVariable (members n (suc v) (m / 2))) (lt-ltb v variables (omega arith)) ih) (λ _. ih)
+    by_cond (λ (l : List ℕ). every is_variable l ≡ true) (eqb (m % 2) 1)
+    (λ _. and_both (is_variable v) (every is_variable (members n (suc v) (m / 2))) (lt-ltb v variables (omega arith)) ih) (λ _. ih)
 
 module _ (k : ℕ) where
   magnitude_range : (t : Term) → is_ring (modulo k) ≡ true → 0 < t.coef → t.coef < 2 ^ k → within 1 greatest_magnitude (written_term k t).magnitude ≡ true
@@ -42,11 +42,11 @@ module _ (k : ℕ) where
       (λ _. within_yes 1 greatest_magnitude t.coef (omega arith) (omega arith)) (λ _. within_yes 1 greatest_magnitude (2 ^ k - t.coef) (omega arith) (omega arith))
 
   spelled_range : (b : ℕ) (p : Poly) → is_ring (modulo k) ≡ true → Reduced k b p → in_range (map (written_term k) p) ≡ true
-  unfolding in_range every isTerm written_term
+  unfolding in_range every is_term written_term
   spelled_range b [] e r = refl
   spelled_range b (t ∷ p) e r =
-      and_both (isTerm (written_term k t)) (in_range (map (written_term k) p))
-      (and_both (within 1 greatest_magnitude (written_term k t).magnitude) (every isVariable (members variables 0 t.set))
+      and_both (is_term (written_term k t)) (in_range (map (written_term k) p))
+      (and_both (within 1 greatest_magnitude (written_term k t).magnitude) (every is_variable (members variables 0 t.set))
       (magnitude_range t e r.1 r.2) (members_range variables 0 t.set (omega arith)))
       (spelled_range t.set p e r.3)
 
@@ -71,17 +71,17 @@ module _ (k : ℕ) where
   pub reduced_few : (f : Written) → length (reduced k f) ≤ length f
   unfolding reduced reduce
   reduced_few [] = omega arith
-  reduced_few (t ∷ f) = omega (arith, insert_few (asTerm k t).set (asTerm k t).coef (reduce k (map (asTerm k) f)), reduced_few f)
+  reduced_few (t ∷ f) = omega (arith, insert_few (as_term k t).set (as_term k t).coef (reduce k (map (as_term k) f)), reduced_few f)
 
   -- ---- what it means
   pub reduced_field : (f : Written) → in_range f ≡ true → Reduced k (2 ^ variables) (reduced k f)
   unfolding reduced
-  reduced_field f e = reduced_reduce k (2 ^ variables) (map (asTerm k) f) (field_below k f e)
+  reduced_field f e = reduced_reduce k (2 ^ variables) (map (as_term k) f) (field_below k f e)
 
   one_meaning : (f g : Written) → in_range f ≡ true → in_range g ≡ true
-      → (reduced k f ≡ reduced k g) ↔ ((m : ℕ) → m < 2 ^ variables → value k m (map (asTerm k) f) ≡ value k m (map (asTerm k) g))
+      → (reduced k f ≡ reduced k g) ↔ ((m : ℕ) → m < 2 ^ variables → value k m (map (as_term k) f) ≡ value k m (map (as_term k) g))
   unfolding reduced
-  one_meaning f g ef eg = one_form k (map (asTerm k) f) (map (asTerm k) g) (2 ^ variables) (field_below k f ef) (field_below k g eg)
+  one_meaning f g ef eg = one_form k (map (as_term k) f) (map (as_term k) g) (2 ^ variables) (field_below k f ef) (field_below k g eg)
 
   -- a polynomial is all that its spelling reads as
   one_reading : (p q : Poly) → Reduced k (2 ^ variables) p → Reduced k (2 ^ variables) q → spell k p ≡ spell k q → p ≡ q
@@ -92,7 +92,7 @@ module _ (k : ℕ) where
       sym (meaning_back k p r) ∙ ap (reduced k) w ∙ meaning_back k q s
 
   pub one_spelling : (f g : Written) → in_range f ≡ true → in_range g ≡ true
-      → (spell k (reduced k f) ≡ spell k (reduced k g)) ↔ ((m : ℕ) → m < 2 ^ variables → value k m (map (asTerm k) f) ≡ value k m (map (asTerm k) g))
+      → (spell k (reduced k f) ≡ spell k (reduced k g)) ↔ ((m : ℕ) → m < 2 ^ variables → value k m (map (as_term k) f) ≡ value k m (map (as_term k) g))
   one_spelling f g ef eg = (
     λ e. (one_meaning f g ef eg).0 (one_reading (reduced k f) (reduced k g) (reduced_field f ef) (reduced_field g eg) e),
     λ h. ap (spell k) ((one_meaning f g ef eg).1 h),

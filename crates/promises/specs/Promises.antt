@@ -4,7 +4,7 @@ use Rattle.std.specs.Prelude.{ℕ, ◌+◌, ◌*◌, ◌/◌, ◌%◌, ◌^◌, 
 use Rattle.limits.specs.Limits.{variables, line_bytes, field_terms, least_spelling_scratch}
 use Rattle.limits.specs.Verdicts.{ACCEPTED, SHORT, LONGTEXT, FULL}
 use Rattle.algebra.specs.Polynomial.{DifferOnlyAt, Apart, Poly, value, vars, coef_of, reduce, product, Below, Reduced, AllZero, Forced, Derived}
-use Rattle.paper.specs.Statement.{Written, Statement, modulo, is_ring, in_range, asTerm, reduced}
+use Rattle.paper.specs.Statement.{Written, Statement, modulo, is_ring, in_range, as_term, reduced}
 use Rattle.paper.specs.Grammar.{Bytes, got}
 use Rattle.paper.specs.Answer.{Answer, answer, statements, ring_in, defined_in, inputs_in, goal_in, introduced_in, accepted, products_in, introduced_polynomials, deleted_polynomials, introduced_terms, deleted_terms}
 use Rattle.paper.specs.Spelling.{spell, whole_field}
@@ -110,7 +110,7 @@ SpelledAgain = (field : Bytes) (k : ℕ) (s : Bytes) → Writes field k s → le
 -- two fields that say f and g are written alike exactly when they agree at every 0/1 assignment
 abbrev pub SpelledAlike : Type 0
 SpelledAlike = (k : ℕ) (a b s t : Bytes) (f g : Written) → Writes a k s → Writes b k t → whole_field a ≡ got f [] → whole_field b ≡ got g []
-    → (s ≡ t) ↔ ((m : ℕ) → m < 2 ^ variables → value k m (map (asTerm k) f) ≡ value k m (map (asTerm k) g))
+    → (s ≡ t) ↔ ((m : ℕ) → m < 2 ^ variables → value k m (map (as_term k) f) ≡ value k m (map (as_term k) g))
 
 -- a spelling is longer than its field by one byte for each written term at the most, and so has at most 8,288 bytes
 abbrev pub SpelledLength : Type 0

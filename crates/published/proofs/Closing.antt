@@ -13,7 +13,7 @@ use Rattle.ground.proofs.Tests.{split, by_cond, cond_yes, cond_no}
 use Rattle.limits.specs.Verdicts.{ACCEPTED, NUMBER, TERMS, NAMES}
 use Rattle.words.specs.Parts.{Within}
 use Rattle.paper.specs.Grammar.{Bytes, Reader, got, stuck, end}
-use Rattle.paper.specs.Statement.{renamed, fields, tooManyTerms}
+use Rattle.paper.specs.Statement.{renamed, fields, too_many_terms}
 use Rattle.paper.specs.Rules.{first, Store}
 use Rattle.paper.specs.Answer.{index_of}
 use Rattle.paper.specs.Published.{Name, Named}
@@ -38,7 +38,7 @@ written_rows false b c = refl
 
 written_by_law : (c : Bool) (st : Named) → written_by c st ≡ cond (eqb (verdict_of (statement_ranged st) (statement_few st)) ACCEPTED) (cond c NAMES ACCEPTED) (verdict_of (statement_ranged st) (statement_few st))
 unfolding written_by statement_ranged statement_few
-written_by_law c st = written_rows (statement_ranged st) (any tooManyTerms (fields (renamed unnumbered st))) c
+written_by_law c st = written_rows (statement_ranged st) (any too_many_terms (fields (renamed unnumbered st))) c
 
 -- ---- closed, by cases
 module _ {n e why : ℕ} {x : StatementRead} (r : StatementRead) where

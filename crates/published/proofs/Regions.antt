@@ -22,7 +22,7 @@ use Rattle.words.proofs.Parts.{put_part, put_within, within_wider}
 use Rattle.terms.specs.Terms.{term_of, decode}
 use Rattle.terms.proofs.Decode.{decode_part, decode_behind, behind_within}
 use Rattle.paper.specs.Grammar.{Bytes, Reader, give}
-use Rattle.paper.specs.Statement.{WrittenOf, PairOf, renamedTerm, renamedField, within, isIndex, isVariable, isTerm, in_range, tooManyTerms, setOf}
+use Rattle.paper.specs.Statement.{WrittenOf, PairOf, renamed_term, renamed_field, within, is_index, is_variable, is_term, in_range, too_many_terms, set_of}
 use Rattle.paper.specs.Rules.{first}
 use Rattle.paper.specs.Published.{Name, spaces, symbol, constant, poly, one, factor, summand, pair_of}
 use Rattle.paper.specs.Named.{names_of}
@@ -37,7 +37,7 @@ use Rattle.reader.proofs.Marks.{verdict_of_law}
 use Rattle.reader.proofs.Following.{got_then, got_give, fails_then, fails_first}
 use Rattle.reader.proofs.Fields.{stands, stands_not}
 use Rattle.reader.proofs.Verdicts.{not_not, verdict_both, verdict_form, verdict_accepted, verdict_few, verdict_number, lesser_accepted}
-use Rattle.names.specs.Names.{held, Holding, numberBy, badBy}
+use Rattle.names.specs.Names.{held, Holding, number_by, bad_by}
 use Rattle.named.specs.Reads.{number_in, PolyAt, PolyIs}
 use Rattle.named.specs.declared.poly.PolyRead.{PolyRead}
 use Rattle.named.proofs.Tokens.{symbol_here, symbol_not}
@@ -52,12 +52,12 @@ use Rattle.published.proofs.Commas.{comma_got, comma_fails}
 -- ---- ids
 module _ {s : Bytes} {at : ℕ} where
   pub id_fine : {v e : ℕ} (x : ℕ) → x ≡ v → InRange constant 1 greatest_index s at v e → IdIs s at (record { value = x; end = e; why = ACCEPTED })
-  unfolding isIndex
+  unfolding is_index
   id_fine {v} x q r =
       inr (record { value = v; taken = r.taken; verdict = rw (within_yes 1 greatest_index v r.above r.below); word = λ a. q })
 
   pub id_out : (r : Refusal) → RefusedAs constant 1 greatest_index s at r → IdIs s at (record { value = 0; end = r.end; why = r.why })
-  unfolding isIndex
+  unfolding is_index
   id_out r q = ⊎_elim
       (λ o. inr (record {
         value = o.1.value;
@@ -68,34 +68,34 @@ module _ {s : Bytes} {at : ℕ} where
 
 -- ---- the polynomial 1
 module _ (s t r : List ℕ) (h : goal_at ≤ length s) (l : length t ≡ term_words) (e : r ≡ paste s factor_at t term_words) where
-  pub one_holds : term_of t ≡ record { set = number_of (replicate set_words 0); coef = 1 } → (f : Name → ℕ) → Holds (renamedField f one) 1 factor_at r
-  unfolding renamedField renamedTerm worded worded_term signed_word setOf in_range every isTerm tooManyTerms number_of decode
+  pub one_holds : term_of t ≡ record { set = number_of (replicate set_words 0); coef = 1 } → (f : Name → ℕ) → Holds (renamed_field f one) 1 factor_at r
+  unfolding renamed_field renamed_term worded worded_term signed_word set_of in_range every is_term too_many_terms number_of decode
   one_holds q f = record { run = decode_behind factor_at 0 s t r (omega arith) l e ∙ ap (λ (u : Term). u ∷ []) q; terms = refl; ranged = refl; short = refl }
 
   pub one_within : Within factor_at goal_at s r
   one_within = within_wider factor_at factor_at (factor_at + term_words) goal_at s r (omega arith) (omega arith) (behind_within factor_at 0 s t r (omega arith) l e)
 
 -- ---- numbers of names that are not bad are variables, so that a field is in range where its coefficients are
-variables_fit : (plain : Bool) (ms ns : List Name) → any (badBy plain ms) ns ≡ false → every isVariable (map (numberBy plain ms) ns) ≡ true
+variables_fit : (plain : Bool) (ms ns : List Name) → any (bad_by plain ms) ns ≡ false → every is_variable (map (number_by plain ms) ns) ≡ true
 unfolding any every
 variables_fit plain ms [] e = refl
 variables_fit plain ms (n ∷ ns) e =
-    and_both (isVariable (numberBy plain ms n)) (every isVariable (map (numberBy plain ms) ns))
-    (number_variable plain ms n (or_none_left (badBy plain ms n) (any (badBy plain ms) ns) e))
-    (variables_fit plain ms ns (or_none_right (badBy plain ms n) (any (badBy plain ms) ns) e))
+    and_both (is_variable (number_by plain ms n)) (every is_variable (map (number_by plain ms) ns))
+    (number_variable plain ms n (or_none_left (bad_by plain ms n) (any (bad_by plain ms) ns) e))
+    (variables_fit plain ms ns (or_none_right (bad_by plain ms n) (any (bad_by plain ms) ns) e))
 
-field_fits : (plain : Bool) (ms : List Name) (q : WrittenOf Name) → any (badBy plain ms) (names_of q) ≡ false → field_ranged q ≡ true → in_range (renamedField (numberBy plain ms) q) ≡ true
-unfolding field_ranged names_of gather in_range renamedField renamedTerm isTerm every
+field_fits : (plain : Bool) (ms : List Name) (q : WrittenOf Name) → any (bad_by plain ms) (names_of q) ≡ false → field_ranged q ≡ true → in_range (renamed_field (number_by plain ms) q) ≡ true
+unfolding field_ranged names_of gather in_range renamed_field renamed_term is_term every
 field_fits plain ms [] e r = refl
 field_fits plain ms (t ∷ q) e r =
-    let b : (any (badBy plain ms) t.variables || any (badBy plain ms) (names_of q)) ≡ false = sym (any_append (badBy plain ms) t.variables (names_of q)) ∙ e in
+    let b : (any (bad_by plain ms) t.variables || any (bad_by plain ms) (names_of q)) ≡ false = sym (any_append (bad_by plain ms) t.variables (names_of q)) ∙ e in
     let m = within 1 greatest_magnitude t.magnitude in
-    let z = every isVariable (map (λ n. 0) t.variables) in
-    let rest = every isTerm (map (renamedTerm (λ n. 0)) q) in
-    and_both (m && every isVariable (map (numberBy plain ms) t.variables)) (every isTerm (map (renamedTerm (numberBy plain ms)) q))
-    (and_both m (every isVariable (map (numberBy plain ms) t.variables)) (and_left m z (and_left (m && z) rest r))
-    (variables_fit plain ms t.variables (or_none_left (any (badBy plain ms) t.variables) (any (badBy plain ms) (names_of q)) b)))
-    (field_fits plain ms q (or_none_right (any (badBy plain ms) t.variables) (any (badBy plain ms) (names_of q)) b) (and_right (m && z) rest r))
+    let z = every is_variable (map (λ n. 0) t.variables) in
+    let rest = every is_term (map (renamed_term (λ n. 0)) q) in
+    and_both (m && every is_variable (map (number_by plain ms) t.variables)) (every is_term (map (renamed_term (number_by plain ms)) q))
+    (and_both m (every is_variable (map (number_by plain ms) t.variables)) (and_left m z (and_left (m && z) rest r))
+    (variables_fit plain ms t.variables (or_none_left (any (bad_by plain ms) t.variables) (any (bad_by plain ms) (names_of q)) b)))
+    (field_fits plain ms q (or_none_right (any (bad_by plain ms) t.variables) (any (bad_by plain ms) (names_of q)) b) (and_right (m && z) rest r))
 
 -- ---- a polynomial in a region that was lent, and came back as y
 module _ (plain : Bool) (n : ℕ) (s : Bytes) (at : ℕ) (room room' : Bytes) (base : ℕ) (words y : List ℕ) (l : base + field_terms * term_words ≤ length words) (r : PolyRead) where
@@ -107,19 +107,19 @@ module _ (plain : Bool) (n : ℕ) (s : Bytes) (at : ℕ) (room room' : Bytes) (b
 
   module _ (c : PolyIs plain n s at room room' (part base (last - base) words) y r) where
     placed : (h : PolyAt plain n s at room room' y r) → field_ranged h.value ≡ true → field_few h.value ≡ true → r.why ≡ ACCEPTED → r.bad ≡ false
-        → Holds (renamedField (number_in plain r.names room') h.value) r.terms base x
-    unfolding tooManyTerms field_few renamedField
+        → Holds (renamed_field (number_in plain r.names room') h.value) r.terms base x
+    unfolding too_many_terms field_few renamed_field
     placed h a b w d =
         let f = number_in plain r.names room' in
-        let many = length-map h.value (renamedTerm f) in
-        let short : tooManyTerms (renamedField (λ n. 0) h.value) ≡ false = not-true _ b in
-        let most = ltb-false field_terms (length (map (renamedTerm (λ n. 0)) h.value)) short in
-        let few : r.terms ≤ field_terms = omega (arith, h.terms, most, length-map h.value (renamedTerm unnumbered)) in
+        let many = length-map h.value (renamed_term f) in
+        let short : too_many_terms (renamed_field (λ n. 0) h.value) ≡ false = not-true _ b in
+        let most = ltb-false field_terms (length (map (renamed_term (λ n. 0)) h.value)) short in
+        let few : r.terms ≤ field_terms = omega (arith, h.terms, most, length-map h.value (renamed_term unnumbered)) in
         record {
           run = sym (decode_part r.terms base (last - base) x (omega arith)) ∙ ap (decode r.terms) (put_part words y base last (omega arith) l c.within.same) ∙ h.run w d;
           terms = h.terms ∙ sym many;
-          ranged = field_fits plain (held r.names room') h.value (ap (λ (ms : List Name). any (badBy plain ms) (names_of h.value)) (h.names.holds d) ∙ sym h.names.some ∙ d) a;
-          short = ap (λ (k : ℕ). ltb field_terms k) (many ∙ sym (length-map h.value (renamedTerm unnumbered))) ∙ short;
+          ranged = field_fits plain (held r.names room') h.value (ap (λ (ms : List Name). any (bad_by plain ms) (names_of h.value)) (h.names.holds d) ∙ sym h.names.some ∙ d) a;
+          short = ap (λ (k : ℕ). ltb field_terms k) (many ∙ sym (length-map h.value (renamed_term unnumbered))) ∙ short;
         }
 
     pub poly_placed : PlacedIs base poly plain n s at room room' words x r
@@ -127,7 +127,7 @@ module _ (plain : Bool) (n : ℕ) (s : Bytes) (at : ℕ) (room room' : Bytes) (b
     poly_placed = record {
       said = ⊎_elim inl (λ h.
           let v : r.why ≡ verdict_of (field_ranged h.value) (field_few h.value)
-          = h.verdict ∙ ap (λ (b : Bool). first ((NUMBER, not (field_ranged h.value)) ∷ (TERMS, b) ∷ [])) (not_not (tooManyTerms (renamedField (λ n. 0) h.value))) in
+          = h.verdict ∙ ap (λ (b : Bool). first ((NUMBER, not (field_ranged h.value)) ∷ (TERMS, b) ∷ [])) (not_not (too_many_terms (renamed_field (λ n. 0) h.value))) in
           inr (record {
             value = h.value;
             taken = h.taken;
@@ -201,9 +201,9 @@ module _ (s : Bytes) (at : ℕ) where
           kept = p.kept;
         }
 
-    pub factor_omitted : at ≤ length s → stands_at s at 42 ≡ false → Holding n room → ((f : Name → ℕ) → Holds (renamedField f one) 1 factor_at words') → Within factor_at goal_at words words'
+    pub factor_omitted : at ≤ length s → stands_at s at 42 ≡ false → Holding n room → ((f : Name → ℕ) → Holds (renamed_field f one) 1 factor_at words') → Within factor_at goal_at words words'
         → FactorIs factor plain n s at room room words words' (record { why = ACCEPTED; end = at; terms = 1; names = n; bad = false })
-    unfolding field_ranged field_few renamedField renamedTerm in_range every isTerm tooManyTerms first names_of gather
+    unfolding field_ranged field_few renamed_field renamed_term in_range every is_term too_many_terms first names_of gather
     factor_omitted l q h p w = record {
       said = inr (record { value = one; taken = factor_none l q; verdict = refl; holds = λ a b. p (number_in plain n room); named = names_none plain n room h });
       kept = w;
@@ -211,7 +211,7 @@ module _ (s : Bytes) (at : ℕ) where
 
 -- ---- a summand
 pub id_form : {s : Bytes} {at : ℕ} {r : IdRead} → IdAt s at r → r.why ≡ FORM → ⊥
-id_form h f = verdict_of_law (isIndex h.value) (sym h.verdict ∙ f)
+id_form h f = verdict_of_law (is_index h.value) (sym h.verdict ∙ f)
 
 pub summand_stops : {read : Reader (PairOf Name)} {plain : Bool} {n : ℕ} {s : Bytes} {at e : ℕ} {room room' : Bytes} {words words' : List ℕ} (r : SummandRead)
     → r ≡ record { index = 0; terms = 0; end = e; why = FORM; names = n; bad = false } → Fails read s at e → Within factor_at goal_at words words'
@@ -242,8 +242,8 @@ module _ (s : Bytes) (at : ℕ) where
         value = pair_of h.value g.value;
         taken = taken;
         verdict =
-            c ∙ ap₂ lesser_of (h.verdict ∙ verdict_number (isIndex h.value)) g.verdict
-            ∙ sym (verdict_both (isIndex h.value) (field_ranged g.value) true (field_few g.value));
+            c ∙ ap₂ lesser_of (h.verdict ∙ verdict_number (is_index h.value)) g.verdict
+            ∙ sym (verdict_both (is_index h.value) (field_ranged g.value) true (field_few g.value));
         holds = λ a b. let z = lesser_accepted i.why f.why (sym c ∙ a) in (h.word z.0, g.holds z.1 b);
         named = g.named;
       });

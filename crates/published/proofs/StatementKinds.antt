@@ -14,7 +14,7 @@ use Rattle.words.specs.Parts.{Within}
 use Rattle.words.proofs.Parts.{within_refl, within_trans}
 use Rattle.terms.proofs.Decode.{decode_same}
 use Rattle.paper.specs.Grammar.{Bytes, Reader, give}
-use Rattle.paper.specs.Statement.{PairOf, Pair, input, goal, lin, del, ext, renamedField, renamedPair, renamed, isIndex}
+use Rattle.paper.specs.Statement.{PairOf, Pair, input, goal, lin, del, ext, renamed_field, renamed_pair, renamed, is_index}
 use Rattle.paper.specs.Rules.{Store}
 use Rattle.paper.specs.Answer.{index_of}
 use Rattle.paper.specs.Published.{Name, constant, name, poly, constraint, target, linear, delete, extend}
@@ -43,11 +43,11 @@ use Rattle.published.proofs.Closing.{item_closes}
 use Rattle.published.proofs.StatementTests.{input_ranged, goal_ranged, lin_ranged, del_ranged, ext_ranged, input_few, goal_few, lin_few, del_few, ext_few}
 
 -- ---- an id in its range has its word
-id_word : {s : Bytes} {at : ℕ} {i : IdRead} (h : IdAt s at i) → isIndex h.value ≡ true → i.value ≡ h.value
+id_word : {s : Bytes} {at : ℕ} {i : IdRead} (h : IdAt s at i) → is_index h.value ≡ true → i.value ≡ h.value
 id_word h e = h.word (h.verdict ∙ ap (λ (b : Bool). cond b ACCEPTED NUMBER) e)
 
-id_verdict : {s : Bytes} {at : ℕ} {i : IdRead} (h : IdAt s at i) → i.why ≡ verdict_of (isIndex h.value) true
-id_verdict h = h.verdict ∙ verdict_number (isIndex h.value)
+id_verdict : {s : Bytes} {at : ℕ} {i : IdRead} (h : IdAt s at i) → i.why ≡ verdict_of (is_index h.value) true
+id_verdict h = h.verdict ∙ verdict_number (is_index h.value)
 
 -- ---- words
 pub front_kept : {s r : List ℕ} → Kept s r → Within 0 goal_at s r
@@ -83,7 +83,7 @@ module _ {k : ℕ} {store : Store} {plain : Bool} {n : ℕ} {s : Bytes} {room ro
         value = goal q;
         taken = got_then poly _ f.taken (got_give (goal q) f.taken.inside);
         verdict = f.verdict ∙ ap₂ verdict_of (goal_ranged q) (goal_few q);
-        holds = λ a b. (renamedField (number_in plain p.names room') q, refl, f.holds a b);
+        holds = λ a b. (renamed_field (number_in plain p.names room') q, refl, f.holds a b);
         named = f.named;
       }) (λ e. refl) r c
 
@@ -98,13 +98,13 @@ module _ {k : ℕ} {store : Store} {plain : Bool} {n : ℕ} {s : Bytes} {room ro
       (record {
         value = input j q;
         taken = got_then constant _ h.taken (got_then poly _ f.taken (got_give (input j q) f.taken.inside));
-        verdict = verdict_two (isIndex j) (field_ranged q) true (field_few q) l (id_verdict h) f.verdict ∙ ap₂ verdict_of (input_ranged j q) (input_few j q);
+        verdict = verdict_two (is_index j) (field_ranged q) true (field_few q) l (id_verdict h) f.verdict ∙ ap₂ verdict_of (input_ranged j q) (input_few j q);
         holds = λ a b.
             let z = lesser_accepted i.why p.why (sym l ∙ a) in
-            let w = renamedField (number_in plain p.names room') q in
+            let w = renamed_field (number_in plain p.names room') q in
             (w, ap (λ (x : ℕ). input x w) (sym (h.word z.0)), f.holds z.1 b);
         named = f.named;
-      }) (λ e. id_word h (and_left (isIndex j) (field_ranged q) (input_ranged j q ∙ e))) r c
+      }) (λ e. id_word h (and_left (is_index j) (field_ranged q) (input_ranged j q ∙ e))) r c
 
 -- ---- pairs or a name, and a polynomial behind a comma
 pub linear_unread : (pairs : Reader (List (PairOf Name))) (j : ℕ) {s : Bytes} {at e : ℕ} → Fails pairs s at e → Fails (linear pairs j) s at e
@@ -160,21 +160,21 @@ module _ {k : ℕ} {store : Store} {plain : Bool} {n : ℕ} {s : Bytes} {at : �
         (record {
           value = st;
           taken = got_then name _ g.taken (comma_got (λ p. give (ext j g.value p)) f.taken (got_give st f.taken.inside));
-          verdict = verdict_two (isIndex j) (field_ranged q) true (field_few q) l (id_verdict h) f.verdict ∙ ap₂ verdict_of (ext_ranged j q g.value) (ext_few j g.value q);
+          verdict = verdict_two (is_index j) (field_ranged q) true (field_few q) l (id_verdict h) f.verdict ∙ ap₂ verdict_of (ext_ranged j q g.value) (ext_few j g.value q);
           holds = λ a b.
               let z = lesser_accepted i.why p.why (sym l ∙ a) in
               let good = or_none_left v.bad p.bad b in
               let rest = or_none_right v.bad p.bad b in
-              let w = renamedField (number_in plain p.names room') q in (
+              let w = renamed_field (number_in plain p.names room') q in (
                 w,
                 ap₂ (λ (x y : ℕ). ext x y w) (sym (h.word z.0)) (number_stays g.names f.named good rest g.value (in_first g.value []) ∙ sym (g.number good)),
                 f.holds z.1 rest,
               );
           named = names_then g.names f.named;
-        }) (λ e. id_word h (and_left (isIndex j) (field_ranged q) (ext_ranged j q g.value ∙ e))) r c
+        }) (λ e. id_word h (and_left (is_index j) (field_ranged q) (ext_ranged j q g.value ∙ e))) r c
 
     pub linear_item : (pairs : Reader (List (PairOf Name))) (q : SumRead) → Kept words words'
-        → (g : NamedAt pairs (every summand_ranged) (every summand_few) (gather (λ q. names_of q.factor)) (λ f qs. Summed k store (map (renamedPair f) qs) words' q.sum)
+        → (g : NamedAt pairs (every summand_ranged) (every summand_few) (gather (λ q. names_of q.factor)) (λ f qs. Summed k store (map (renamed_pair f) qs) words' q.sum)
         plain n s at room x q.end q.why q.names q.bad) → PlacedAt stated_at comma_poly plain q.names s q.end x room' words'' p
         → {head why : ℕ} → head ≡ lesser_of i.why q.why → why ≡ lesser_of head p.why
         → ClosedIs (length s) p.end why (record { said = Lin i.value p.terms; sum = q.sum; index = i.value; names = p.names; bad = q.bad || p.bad }) r
@@ -190,19 +190,19 @@ module _ {k : ℕ} {store : Store} {plain : Bool} {n : ℕ} {s : Bytes} {at : �
         (record {
           value = st;
           taken = got_then pairs _ g.taken (comma_got (λ p. give (lin j p qs)) f.taken (got_give st f.taken.inside));
-          verdict = verdict_two (isIndex j && every summand_ranged qs) (field_ranged w) (every summand_few qs) (field_few w) m
-              (verdict_two (isIndex j) (every summand_ranged qs) true (every summand_few qs) l (id_verdict h) g.verdict) f.verdict
+          verdict = verdict_two (is_index j && every summand_ranged qs) (field_ranged w) (every summand_few qs) (field_few w) m
+              (verdict_two (is_index j) (every summand_ranged qs) true (every summand_few qs) l (id_verdict h) g.verdict) f.verdict
               ∙ ap₂ verdict_of (lin_ranged j w qs) (lin_few j w qs);
           holds = λ a b.
               let z = lesser_accepted head p.why (sym m ∙ a) in
               let y = lesser_accepted i.why q.why (sym l ∙ z.0) in
               let good = or_none_left q.bad p.bad b in
               let rest = or_none_right q.bad p.bad b in
-              let v = renamedField (number_in plain p.names room') w in
-              let ps = map (renamedPair (number_in plain p.names room')) qs in (
+              let v = renamed_field (number_in plain p.names room') w in
+              let ps = map (renamed_pair (number_in plain p.names room')) qs in (
                 ps,
                 subst (λ (ps : List Pair). Summed k store ps words'' q.sum) (sym (pairs_stay qs g.named f.named good rest)) (summed_stays q.sum kept (g.holds y.1 good)),
                 (v, ap (λ (x : ℕ). lin x v ps) (sym (h.word y.0)), f.holds z.1 rest),
               );
           named = names_then g.named f.named;
-        }) (λ e. id_word h (and_left (isIndex j) (every summand_ranged qs) (and_left (isIndex j && every summand_ranged qs) (field_ranged w) (lin_ranged j w qs ∙ e)))) r c
+        }) (λ e. id_word h (and_left (is_index j) (every summand_ranged qs) (and_left (is_index j && every summand_ranged qs) (field_ranged w) (lin_ranged j w qs ∙ e)))) r c

@@ -15,7 +15,7 @@ use Rattle.ground.proofs.Tests.{and_left, or_none_left, or_none_right}
 use Rattle.limits.specs.Verdicts.{ACCEPTED, FORM}
 use Rattle.words.specs.Parts.{Within}
 use Rattle.paper.specs.Grammar.{Bytes, Reader, Read, got, stuck, next, ◌>>◌, give}
-use Rattle.paper.specs.Statement.{Written, Pair, WrittenOf, PairOf, renamedTerm, renamedField, renamedPair, isIndex, isTerm, in_range, tooManyTerms}
+use Rattle.paper.specs.Statement.{Written, Pair, WrittenOf, PairOf, renamed_term, renamed_field, renamed_pair, is_index, is_term, in_range, too_many_terms}
 use Rattle.paper.specs.Rules.{Store, first}
 use Rattle.paper.specs.Published.{Name, spaces, symbol, constant, poly, summand, more_summands, summands, one, pair_of, addends, multiplied}
 use Rattle.paper.specs.Named.{names_of}
@@ -52,7 +52,7 @@ pub pair_added : {k : ℕ} {store : Store} {read : Reader (PairOf Name)} {plain 
     → (why' ≡ ACCEPTED → (bad || q.bad) ≡ false → (w : Written) → Holds w q.terms factor_at words' → (qs : List Pair) → Summed k store qs words' sum
     → Summed k store (qs ++ (record { index = q.index; factor = w } ∷ [])) words'' sum')
     → AddedAt k store read plain n s at room room' words words'' why bad sum (record { sum = sum'; end = q.end; why = why'; names = q.names; bad = bad || q.bad })
-unfolding renamedPair
+unfolding renamed_pair
 pair_added {k} {store} {plain = plain} {room' = room'} {words'' = words''} {sum' = sum'} q h w why why' c bad added = record {
   value = h.value;
   taken = h.taken;
@@ -62,14 +62,14 @@ pair_added {k} {store} {plain = plain} {room' = room'} {words'' = words''} {sum'
   named = h.named;
   summed = λ a b qs u.
       let x = h.holds (lesser_accepted why q.why (sym c ∙ a)).1 (or_none_right bad q.bad b) in
-      let p : Written = renamedField (number_in plain q.names room') h.value.factor in
+      let p : Written = renamed_field (number_in plain q.names room') h.value.factor in
       subst (λ (i : ℕ). Summed k store (qs ++ (record { index = i; factor = p } ∷ [])) words'' sum') x.0 (added a b p x.1 qs (summed_kept factor_at goal_at w (omega arith) u));
 }
 
 -- pairs with their verdict, their sum and their names
 pub record PairsSummed (k : ℕ) (store : Store) (plain : Bool) (n : ℕ) (room room' : Bytes) (words' : List ℕ) (sum : Sum) (why names : ℕ) (bad : Bool) (qs : List (PairOf Name)) : Type 0 where
   pub verdict : why ≡ verdict_of (every summand_ranged qs) (every summand_few qs)
-  pub holds : why ≡ ACCEPTED → bad ≡ false → Summed k store (map (renamedPair (number_in plain names room')) qs) words' sum
+  pub holds : why ≡ ACCEPTED → bad ≡ false → Summed k store (map (renamed_pair (number_in plain names room')) qs) words' sum
   pub named : NamesAre plain n (gather (λ q. names_of q.factor) qs) room room' names bad
 
 module _ {k : ℕ} {store : Store} {plain : Bool} {n : ℕ} {room : Bytes} {words : List ℕ} {sum : Sum} where
@@ -89,9 +89,9 @@ module _ {k : ℕ} {store : Store} {plain : Bool} {n : ℕ} {room : Bytes} {word
         let d = sym h.some ∙ b in
         let old = or_none_left bad h.own d in
         let f = number_in plain r.names room' in
-        let all : map (renamedPair f) qs ++ (renamedPair f h.value ∷ []) ≡ map (renamedPair f) (qs ++ (h.value ∷ [])) = sym (map_append (renamedPair f) qs (h.value ∷ [])) in
+        let all : map (renamed_pair f) qs ++ (renamed_pair f h.value ∷ []) ≡ map (renamed_pair f) (qs ++ (h.value ∷ [])) = sym (map_append (renamed_pair f) qs (h.value ∷ [])) in
         subst (λ (ps : List Pair). Summed k store ps words' r.sum) all
-        (h.summed a b (map (renamedPair f) qs)
+        (h.summed a b (map (renamed_pair f) qs)
         (subst (λ (ps : List Pair). Summed k store ps words sum) (sym (pairs_stay qs p.named h.named old (or_none_right bad h.own d)))
         (p.holds (lesser_accepted why _ (sym h.verdict ∙ a)).0 old)));
     named =
@@ -141,7 +141,7 @@ module _ {k : ℕ} {store : Store} {plain : Bool} {n : ℕ} (s : Bytes) (at : �
         })) a.said
 
     pub summands_took : stands_at s r.end 43 ≡ false
-        → NamedAt summands (every summand_ranged) (every summand_few) (gather (λ q. names_of q.factor)) (λ f qs. Summed k store (map (renamedPair f) qs) words r.sum)
+        → NamedAt summands (every summand_ranged) (every summand_few) (gather (λ q. names_of q.factor)) (λ f qs. Summed k store (map (renamed_pair f) qs) words r.sum)
         plain n s at room x r.end r.why r.names r.bad
     unfolding summands
     summands_took z =
@@ -161,7 +161,7 @@ module _ {k : ℕ} {store : Store} {plain : Bool} {n : ℕ} (s : Bytes) (at : �
 
     pub summands_end : sign ≡ stands_at s r.end 43 → (not (eqb r.why FORM) && sign) ≡ false
         → StopsOr summands s at r.end r.why
-        (NamedAt summands (every summand_ranged) (every summand_few) (gather (λ q. names_of q.factor)) (λ f qs. Summed k store (map (renamedPair f) qs) words r.sum)
+        (NamedAt summands (every summand_ranged) (every summand_few) (gather (λ q. names_of q.factor)) (λ f qs. Summed k store (map (renamed_pair f) qs) words r.sum)
         plain n s at room x r.end r.why r.names r.bad)
     summands_end q e =
         ⊎_elim inl (λ h. inr (summands_took r h (sym q ∙ sym (ap (λ (b : Bool). not b && sign) (ne_eqb r.why FORM (summands_form r h))) ∙ e))) p
@@ -194,7 +194,7 @@ module _ {s : Bytes} {at : ℕ} where
       → SummandAt multiplied_pair plain n s at room room' words' q → Within factor_at goal_at words words' → Holding n room → Summed k store [] words none
       → (q.why ≡ ACCEPTED → q.bad ≡ false → (w : Written) → Holds w q.terms factor_at words' → (qs : List Pair) → Summed k store qs words' none
       → Summed k store (qs ++ (record { index = q.index; factor = w } ∷ [])) words'' sum)
-      → NamedAt multiplied (every summand_ranged) (every summand_few) (gather (λ q. names_of q.factor)) (λ f qs. Summed k store (map (renamedPair f) qs) words'' sum)
+      → NamedAt multiplied (every summand_ranged) (every summand_few) (gather (λ q. names_of q.factor)) (λ f qs. Summed k store (map (renamed_pair f) qs) words'' sum)
       plain n s at room room' q.end q.why q.names q.bad
   unfolding pair_added
   multiplied_took q h w l u added =
@@ -229,22 +229,22 @@ module _ {s : Bytes} {at : ℕ} where
       addends_stuck f = fails_then constant _ h.taken (fails_then (symbol 44) _ (symbol_here s i.end 44 here g) (fails_first constant _ f))
 
       pub addends_took : {k : ℕ} {store : Store} {plain : Bool} {n : ℕ} {room : Bytes} {words : List ℕ} {sum : Sum} (j : IdRead) → IdAt s m j → (why : ℕ) → why ≡ lesser_of i.why j.why → Holding n room
-          → (why ≡ ACCEPTED → (f : Name → ℕ) → Summed k store (renamedPair f (pair_of i.value one) ∷ renamedPair f (pair_of j.value one) ∷ []) words sum)
-          → NamedAt addends (every summand_ranged) (every summand_few) (gather (λ q. names_of q.factor)) (λ f qs. Summed k store (map (renamedPair f) qs) words sum)
+          → (why ≡ ACCEPTED → (f : Name → ℕ) → Summed k store (renamed_pair f (pair_of i.value one) ∷ renamed_pair f (pair_of j.value one) ∷ []) words sum)
+          → NamedAt addends (every summand_ranged) (every summand_few) (gather (λ q. names_of q.factor)) (λ f qs. Summed k store (map (renamed_pair f) qs) words sum)
           plain n s at room room j.end why n false
-      unfolding addends summand_ranged summand_few field_ranged field_few renamedPair renamedField renamedTerm in_range every isTerm tooManyTerms names_of gather
+      unfolding addends summand_ranged summand_few field_ranged field_few renamed_pair renamed_field renamed_term in_range every is_term too_many_terms names_of gather
       addends_took {k} {store} {plain} {n} {room} {words} {sum} j o why c l summed = record {
         value = pair_of h.value one ∷ pair_of o.value one ∷ [];
         taken = got_then constant _ h.taken (got_then (symbol 44) _ (symbol_here s i.end 44 here g) (got_then constant _ o.taken (got_give _ o.taken.inside)));
         verdict =
-            c ∙ ap₂ lesser_of (h.verdict ∙ verdict_number (isIndex h.value)) (o.verdict ∙ verdict_number (isIndex o.value))
-            ∙ sym (verdict_both (isIndex h.value) (isIndex o.value) true true)
-            ∙ ap (λ (b : Bool). verdict_of b true) (both_indices (isIndex h.value) (isIndex o.value));
+            c ∙ ap₂ lesser_of (h.verdict ∙ verdict_number (is_index h.value)) (o.verdict ∙ verdict_number (is_index o.value))
+            ∙ sym (verdict_both (is_index h.value) (is_index o.value) true true)
+            ∙ ap (λ (b : Bool). verdict_of b true) (both_indices (is_index h.value) (is_index o.value));
         holds = λ a b.
             let z = lesser_accepted i.why j.why (sym c ∙ a) in
             let f = number_in plain n room in
-            subst (λ (v : ℕ). Summed k store (renamedPair f (pair_of v one) ∷ renamedPair f (pair_of o.value one) ∷ []) words sum) (h.word z.0)
-            (subst (λ (v : ℕ). Summed k store (renamedPair f (pair_of i.value one) ∷ renamedPair f (pair_of v one) ∷ []) words sum) (o.word z.1)
+            subst (λ (v : ℕ). Summed k store (renamed_pair f (pair_of v one) ∷ renamed_pair f (pair_of o.value one) ∷ []) words sum) (h.word z.0)
+            (subst (λ (v : ℕ). Summed k store (renamed_pair f (pair_of i.value one) ∷ renamed_pair f (pair_of v one) ∷ []) words sum) (o.word z.1)
             (summed a f));
         named = names_none plain n room l;
       }

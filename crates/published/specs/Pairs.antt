@@ -6,7 +6,7 @@ use Rattle.limits.specs.Verdicts.{ACCEPTED, NUMBER}
 use Rattle.ground.specs.Lists.{every, gather}
 use Rattle.words.specs.Parts.{Within}
 use Rattle.paper.specs.Grammar.{Bytes, Reader, ◌>>=◌, ◌>>◌, give}
-use Rattle.paper.specs.Statement.{WrittenOf, PairOf, Pair, renamedField, renamedPair, isIndex, in_range, tooManyTerms}
+use Rattle.paper.specs.Statement.{WrittenOf, PairOf, Pair, renamed_field, renamed_pair, is_index, in_range, too_many_terms}
 use Rattle.paper.specs.Rules.{Store}
 use Rattle.paper.specs.Published.{Name, spaces, symbol, constant, poly, pair_of, summands, addends, multiplied}
 use Rattle.paper.specs.Named.{names_of}
@@ -26,7 +26,7 @@ use Rattle.published.specs.declared.combination.SumRead.{SumRead}
 pub record IdAt (s : Bytes) (at : ℕ) (r : IdRead) : Type 0 where
   pub value : ℕ
   pub taken : Got constant s at value r.end
-  pub verdict : r.why ≡ cond (isIndex value) ACCEPTED NUMBER
+  pub verdict : r.why ≡ cond (is_index value) ACCEPTED NUMBER
   pub word : r.why ≡ ACCEPTED → r.value ≡ value
 
 abbrev pub IdIs : Bytes → ℕ → IdRead → Type 0
@@ -34,13 +34,13 @@ IdIs s at r = StopsOr constant s at r.end r.why (IdAt s at r)
 
 -- ---- the two tests of what is written: a number is an id or a coefficient here, whatever numbers names have
 unfoldable pub field_ranged : WrittenOf Name → Bool
-field_ranged q = in_range (renamedField (λ n. 0) q)
+field_ranged q = in_range (renamed_field (λ n. 0) q)
 
 unfoldable pub field_few : WrittenOf Name → Bool
-field_few q = not (tooManyTerms (renamedField (λ n. 0) q))
+field_few q = not (too_many_terms (renamed_field (λ n. 0) q))
 
 unfoldable pub summand_ranged : PairOf Name → Bool
-summand_ranged q = isIndex q.index && field_ranged q.factor
+summand_ranged q = is_index q.index && field_ranged q.factor
 
 unfoldable pub summand_few : PairOf Name → Bool
 summand_few q = field_few q.factor
@@ -57,7 +57,7 @@ pub record NamedAt {A : Type 0} (read : Reader A) (ranged few : A → Bool) (nam
 -- ---- a polynomial in the region from word base on
 abbrev pub PlacedAt : ℕ → Reader (WrittenOf Name) → Bool → ℕ → Bytes → ℕ → Bytes → Bytes → List ℕ → PolyRead → Type 0
 PlacedAt base read plain n s at room room' words' r =
-    NamedAt read field_ranged field_few names_of (λ f q. Holds (renamedField f q) r.terms base words') plain n s at room room' r.end r.why r.names r.bad
+    NamedAt read field_ranged field_few names_of (λ f q. Holds (renamed_field f q) r.terms base words') plain n s at room room' r.end r.why r.names r.bad
 
 pub record PlacedIs (base : ℕ) (read : Reader (WrittenOf Name)) (plain : Bool) (n : ℕ) (s : Bytes) (at : ℕ) (room room' : Bytes) (words words' : List ℕ) (r : PolyRead) : Type 0 where
   pub said : StopsOr read s at r.end r.why (PlacedAt base read plain n s at room room' words' r)
@@ -77,7 +77,7 @@ in_parentheses = do spaces; symbol (code "("); q ← poly; symbol (code ")"); gi
 -- ---- a pair, its factor in the factor's region
 abbrev pub SummandAt : Reader (PairOf Name) → Bool → ℕ → Bytes → ℕ → Bytes → Bytes → List ℕ → SummandRead → Type 0
 SummandAt read plain n s at room room' words' r =
-    NamedAt read summand_ranged summand_few (λ q. names_of q.factor) (λ f q. (r.index ≡ q.index) × Holds (renamedField f q.factor) r.terms factor_at words')
+    NamedAt read summand_ranged summand_few (λ q. names_of q.factor) (λ f q. (r.index ≡ q.index) × Holds (renamed_field f q.factor) r.terms factor_at words')
     plain n s at room room' r.end r.why r.names r.bad
 
 pub record SummandIs (read : Reader (PairOf Name)) (plain : Bool) (n : ℕ) (s : Bytes) (at : ℕ) (room room' : Bytes) (words words' : List ℕ) (r : SummandRead) : Type 0 where
@@ -97,7 +97,7 @@ pub record AddedAt (k : ℕ) (store : Store) (read : Reader (PairOf Name)) (plai
   pub some : r.bad ≡ (bad || own)
   pub named : NamesAre plain n (names_of value.factor) room room' r.names own
   pub summed : r.why ≡ ACCEPTED → r.bad ≡ false → (qs : List Pair) → Summed k store qs words sum
-      → Summed k store (qs ++ (renamedPair (number_in plain r.names room') value ∷ [])) words' r.sum
+      → Summed k store (qs ++ (renamed_pair (number_in plain r.names room') value ∷ [])) words' r.sum
 
 pub record AddedIs (k : ℕ) (store : Store) (read : Reader (PairOf Name)) (plain : Bool) (n : ℕ) (s : Bytes) (at : ℕ) (room room' : Bytes) (words words' : List ℕ) (why : ℕ) (bad : Bool) (sum : Sum) (r : SumRead) : Type 0 where
   pub said : StopsOr read s at r.end r.why (AddedAt k store read plain n s at room room' words words' why bad sum r)
@@ -106,7 +106,7 @@ pub record AddedIs (k : ℕ) (store : Store) (read : Reader (PairOf Name)) (plai
 -- ---- pairs, with their sum over a store at k
 pub record SumIs (k : ℕ) (store : Store) (pairs : Reader (List (PairOf Name))) (plain : Bool) (n : ℕ) (s : Bytes) (at : ℕ) (room room' : Bytes) (words words' : List ℕ) (r : SumRead) : Type 0 where
   pub said : StopsOr pairs s at r.end r.why
-      (NamedAt pairs (every summand_ranged) (every summand_few) (gather (λ q. names_of q.factor)) (λ f qs. Summed k store (map (renamedPair f) qs) words' r.sum)
+      (NamedAt pairs (every summand_ranged) (every summand_few) (gather (λ q. names_of q.factor)) (λ f qs. Summed k store (map (renamed_pair f) qs) words' r.sum)
       plain n s at room room' r.end r.why r.names r.bad)
   pub kept : Kept words words'
 

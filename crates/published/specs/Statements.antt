@@ -4,7 +4,7 @@ use Rattle.limits.specs.Verdicts.{ACCEPTED, LONGLINE, FORM, NUMBER, TERMS, NAMES
 use Rattle.ground.specs.Lists.{any}
 use Rattle.words.specs.Parts.{Within}
 use Rattle.paper.specs.Grammar.{Bytes, Line, Reader, got, stuck, ◌>>=◌, ◌>>◌, give, end}
-use Rattle.paper.specs.Statement.{renamed, fields, numbersInRange, tooManyTerms}
+use Rattle.paper.specs.Statement.{renamed, fields, numbers_in_range, too_many_terms}
 use Rattle.paper.specs.Rules.{first, Store}
 use Rattle.paper.specs.Answer.{index_of}
 use Rattle.paper.specs.Published.{Name, Named, constraint, target, proof_step, NamedItem, read_by}
@@ -31,14 +31,14 @@ abbrev pub unnumbered : Name → ℕ
 unnumbered n = 0
 
 unfoldable pub statement_ranged : Named → Bool
-statement_ranged st = numbersInRange (renamed unnumbered st)
+statement_ranged st = numbers_in_range (renamed unnumbered st)
 
 unfoldable pub statement_few : Named → Bool
-statement_few st = not (any tooManyTerms (fields (renamed unnumbered st)))
+statement_few st = not (any too_many_terms (fields (renamed unnumbered st)))
 
 unfoldable pub written_by : Bool → Named → ℕ
 written_by bad st =
-    first ((NUMBER, not (numbersInRange (renamed unnumbered st))) ∷ (TERMS, any tooManyTerms (fields (renamed unnumbered st))) ∷ (NAMES, bad) ∷ [])
+    first ((NUMBER, not (numbers_in_range (renamed unnumbered st))) ∷ (TERMS, any too_many_terms (fields (renamed unnumbered st))) ∷ (NAMES, bad) ∷ [])
 
 -- one that is too long, one that cannot be read, one that is refused for what is written, and one that is not
 pub data NamedTells (k : ℕ) (store : Store) (plain : Bool) (n : ℕ) (i : NamedItem) (room room' : Bytes) (words : List ℕ) (r : StatementRead) : Type 0 where
@@ -46,7 +46,7 @@ pub data NamedTells (k : ℕ) (store : Store) (plain : Bool) (n : ℕ) (i : Name
   stops : i.long ≡ false → (t : Bytes) → i.reads ≡ stuck t → r.said ≡ Refused FORM → r.bad ≡ false → NamedTells k store plain n i room room' words r
   turns : i.long ≡ false → (st : Named) (t : Bytes) → i.reads ≡ got st t → NamesAre plain n (names_in st) room room' r.names r.bad
       → r.said ≡ Refused (written_by r.bad st) → (written_by r.bad st ≡ ACCEPTED → ⊥)
-      → (numbersInRange (renamed unnumbered st) ≡ true → r.index ≡ index_of (renamed unnumbered st)) → NamedTells k store plain n i room room' words r
+      → (numbers_in_range (renamed unnumbered st) ≡ true → r.index ≡ index_of (renamed unnumbered st)) → NamedTells k store plain n i room room' words r
   passes : i.long ≡ false → (st : Named) (t : Bytes) → i.reads ≡ got st t → NamesAre plain n (names_in st) room room' r.names r.bad
       → written_by r.bad st ≡ ACCEPTED → Means k store words r.sum (renamed (number_in plain r.names room') st) r.said
       → r.index ≡ index_of (renamed unnumbered st) → NamedTells k store plain n i room room' words r

@@ -5,7 +5,7 @@ ghost use Rattle.limits.specs.Verdicts.{ACCEPTED, FORM};
 ghost use Rattle.paper.specs.Statement.{Written, Pair};
 ghost use Rattle.paper.specs.Published.{summand, summands};
 ghost use Rattle.written.specs.Worded.{Holds};
-ghost use Rattle.names.specs.Names.{Holding, hintCount};
+ghost use Rattle.names.specs.Names.{Holding, hint_count};
 ghost use Rattle.scratch.specs.Scratch.{factor_at, Kept};
 ghost use Rattle.table.specs.Table.{store_of_columns};
 ghost use Rattle.sums.specs.Sums.{PoolHolds, Summed};
@@ -94,7 +94,7 @@ fn add_summand<'a>(
     bad: bool,
     sum: Sum,
 ) -> SumRead
-    requires { PoolHolds starts.now counts.now stored pool.now × (0 < stored → (1 ≤ k) × (k ≤ 64)) × Holding n room.old × (hintCount ≤ length hints.old) × (at ≤ length s.now)
+    requires { PoolHolds starts.now counts.now stored pool.now × (0 < stored → (1 ≤ k) × (k ≤ 64)) × Holding n room.old × (hint_count ≤ length hints.old) × (at ≤ length s.now)
         × (least_scratch ≤ length scratch.old)
         × (why ≡ ACCEPTED → bad ≡ false → (qs : List Pair) × Summed k (store_of_columns indices.now starts.now counts.now pool.now stored) qs scratch.old sum) }
     ensures { AddedIs k (store_of_columns indices.now starts.now counts.now pool.now stored) summand plain n s.now at room.old room.new scratch.old scratch.new why bad sum result }
@@ -132,7 +132,7 @@ pub(crate) fn read_sum<'a>(
     at: usize,
     scratch: &mut [u64],
 ) -> SumRead
-    requires { PoolHolds starts.now counts.now stored pool.now × (0 < stored → (1 ≤ k) × (k ≤ 64)) × Holding n room.old × (hintCount ≤ length hints.old) × (at ≤ length s.now)
+    requires { PoolHolds starts.now counts.now stored pool.now × (0 < stored → (1 ≤ k) × (k ≤ 64)) × Holding n room.old × (hint_count ≤ length hints.old) × (at ≤ length s.now)
         × (least_scratch ≤ length scratch.old) }
     ensures { SumIs k (store_of_columns indices.now starts.now counts.now pool.now stored) summands plain n s.now at room.old room.new scratch.old scratch.new result }
 {

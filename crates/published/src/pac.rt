@@ -2,9 +2,9 @@
 ghost use Rattle.std.specs.Prelude.{◌≡◌, List, [], ◌∷◌, ◌++◌, ℕ, ◌≤◌, ◌<◌, length};
 ghost use Rattle.limits.specs.Limits.{least_scratch};
 ghost use Rattle.limits.specs.Verdicts.{ACCEPTED};
-ghost use Rattle.paper.specs.Statement.{Pair, renamedPair};
+ghost use Rattle.paper.specs.Statement.{Pair, renamed_pair};
 ghost use Rattle.paper.specs.Published.{Name, one, pair_of, addends, multiplied};
-ghost use Rattle.names.specs.Names.{Holding, hintCount};
+ghost use Rattle.names.specs.Names.{Holding, hint_count};
 ghost use Rattle.scratch.specs.Scratch.{Kept};
 ghost use Rattle.table.specs.Table.{store_of_columns};
 ghost use Rattle.sums.specs.Sums.{PoolHolds, Summed};
@@ -28,7 +28,7 @@ fn read_multiplied_pair(
     at: usize,
     scratch: &mut [u64],
 ) -> SummandRead
-    requires { Holding n room.old × (hintCount ≤ length hints.old) × (at ≤ length s.now) × (least_scratch ≤ length scratch.old) }
+    requires { Holding n room.old × (hint_count ≤ length hints.old) × (at ≤ length s.now) × (least_scratch ≤ length scratch.old) }
     ensures { SummandIs multiplied_pair plain n s.now at room.old room.new scratch.old scratch.new result }
 {
     let i = read_id(s, at);
@@ -65,7 +65,7 @@ pub(crate) fn read_multiplied<'a>(
     at: usize,
     scratch: &mut [u64],
 ) -> SumRead
-    requires { PoolHolds starts.now counts.now stored pool.now × (0 < stored → (1 ≤ k) × (k ≤ 64)) × Holding n room.old × (hintCount ≤ length hints.old) × (at ≤ length s.now)
+    requires { PoolHolds starts.now counts.now stored pool.now × (0 < stored → (1 ≤ k) × (k ≤ 64)) × Holding n room.old × (hint_count ≤ length hints.old) × (at ≤ length s.now)
         × (least_scratch ≤ length scratch.old) }
     ensures { SumIs k (store_of_columns indices.now starts.now counts.now pool.now stored) multiplied plain n s.now at room.old room.new scratch.old scratch.new result }
 {
@@ -101,7 +101,7 @@ fn add_one<'a>(
     requires { PoolHolds starts.now counts.now stored pool.now × (0 < stored → (1 ≤ k) × (k ≤ 64)) × (least_scratch ≤ length scratch.old)
         × (why ≡ ACCEPTED → (qs : List Pair) × Summed k (store_of_columns indices.now starts.now counts.now pool.now stored) qs scratch.old sum) }
     ensures summed { why ≡ ACCEPTED → (f : Name → ℕ) (qs : List Pair) → Summed k (store_of_columns indices.now starts.now counts.now pool.now stored) qs scratch.old sum
-        → Summed k (store_of_columns indices.now starts.now counts.now pool.now stored) (qs ++ (renamedPair f (pair_of index one) ∷ [])) scratch.new result }
+        → Summed k (store_of_columns indices.now starts.now counts.now pool.now stored) (qs ++ (renamed_pair f (pair_of index one) ∷ [])) scratch.new result }
     ensures kept { Kept scratch.old scratch.new }
 {
     put_one(scratch);
@@ -125,7 +125,7 @@ fn add_both<'a>(
 ) -> Sum
     requires { PoolHolds starts.now counts.now stored pool.now × (0 < stored → (1 ≤ k) × (k ≤ 64)) × (least_scratch ≤ length scratch.old) }
     ensures summed { why ≡ ACCEPTED → (f : Name → ℕ)
-        → Summed k (store_of_columns indices.now starts.now counts.now pool.now stored) (renamedPair f (pair_of i one) ∷ renamedPair f (pair_of j one) ∷ []) scratch.new result }
+        → Summed k (store_of_columns indices.now starts.now counts.now pool.now stored) (renamed_pair f (pair_of i one) ∷ renamed_pair f (pair_of j one) ∷ []) scratch.new result }
     ensures kept { Kept scratch.old scratch.new }
 {
     let none = Sum::none();
@@ -153,7 +153,7 @@ pub(crate) fn read_addends<'a>(
     at: usize,
     scratch: &mut [u64],
 ) -> SumRead
-    requires { PoolHolds starts.now counts.now stored pool.now × (0 < stored → (1 ≤ k) × (k ≤ 64)) × Holding n room.old × (hintCount ≤ length hints.old) × (at ≤ length s.now)
+    requires { PoolHolds starts.now counts.now stored pool.now × (0 < stored → (1 ≤ k) × (k ≤ 64)) × Holding n room.old × (hint_count ≤ length hints.old) × (at ≤ length s.now)
         × (least_scratch ≤ length scratch.old) }
     ensures { SumIs k (store_of_columns indices.now starts.now counts.now pool.now stored) addends plain n s.now at room.old room.new scratch.old scratch.new result }
 {

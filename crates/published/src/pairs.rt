@@ -3,10 +3,10 @@ ghost use Rattle.std.specs.Prelude.{◌≡◌, false, ℕ, ◌+◌, ◌*◌, ◌
 ghost use Rattle.limits.specs.Limits.{field_terms, term_words, least_scratch};
 ghost use Rattle.limits.specs.Verdicts.{FORM};
 ghost use Rattle.words.specs.Parts.{Within};
-ghost use Rattle.paper.specs.Statement.{renamedField};
+ghost use Rattle.paper.specs.Statement.{renamed_field};
 ghost use Rattle.paper.specs.Published.{Name, one, poly, factor, summand};
 ghost use Rattle.written.specs.Worded.{Holds};
-ghost use Rattle.names.specs.Names.{Holding, hintCount};
+ghost use Rattle.names.specs.Names.{Holding, hint_count};
 ghost use Rattle.scratch.specs.Scratch.{factor_at, goal_at};
 ghost use Rattle.published.specs.Pairs.{IdIs, PlacedIs, FactorIs, in_parentheses, SummandIs, comma_poly};
 
@@ -60,7 +60,7 @@ pub(crate) fn read_id(s: &[u8], at: usize) -> IdRead
 // Puts the polynomial 1 into the factor's region.
 pub(crate) fn put_one(scratch: &mut [u64])
     requires { least_scratch ≤ length scratch.old }
-    ensures holds { (f : Name → ℕ) → Holds (renamedField f one) 1 factor_at scratch.new }
+    ensures holds { (f : Name → ℕ) → Holds (renamed_field f one) 1 factor_at scratch.new }
     ensures kept { Within factor_at goal_at scratch.old scratch.new }
 {
     let t = terms::term_of([0; limits::SET_WORDS], 1);
@@ -78,7 +78,7 @@ pub(crate) fn read_polynomial(
     scratch: &mut [u64],
     base: usize,
 ) -> PolyRead
-    requires { Holding n room.old × (hintCount ≤ length hints.old) × (at ≤ length s.now) × (base + field_terms * term_words ≤ length scratch.old) }
+    requires { Holding n room.old × (hint_count ≤ length hints.old) × (at ≤ length s.now) × (base + field_terms * term_words ≤ length scratch.old) }
     ensures { PlacedIs base poly plain n s.now at room.old room.new scratch.old scratch.new result }
 {
     let last = base + scratch::REGION;
@@ -96,7 +96,7 @@ pub(crate) fn behind_comma(
     scratch: &mut [u64],
     base: usize,
 ) -> PolyRead
-    requires { Holding n room.old × (hintCount ≤ length hints.old) × (at ≤ length s.now) × (base + field_terms * term_words ≤ length scratch.old) }
+    requires { Holding n room.old × (hint_count ≤ length hints.old) × (at ≤ length s.now) × (base + field_terms * term_words ≤ length scratch.old) }
     ensures { PlacedIs base comma_poly plain n s.now at room.old room.new scratch.old scratch.new result }
 {
     if !stands_at(s, at, b',') {
@@ -143,7 +143,7 @@ fn in_parentheses(
     at: usize,
     scratch: &mut [u64],
 ) -> PolyRead
-    requires { Holding n room.old × (hintCount ≤ length hints.old) × (at ≤ length s.now) × (least_scratch ≤ length scratch.old) }
+    requires { Holding n room.old × (hint_count ≤ length hints.old) × (at ≤ length s.now) × (least_scratch ≤ length scratch.old) }
     ensures { FactorIs in_parentheses plain n s.now at room.old room.new scratch.old scratch.new result }
 {
     let opened = skip_spaces(s, at);
@@ -185,7 +185,7 @@ fn read_factor(
     at: usize,
     scratch: &mut [u64],
 ) -> PolyRead
-    requires { Holding n room.old × (hintCount ≤ length hints.old) × (at ≤ length s.now) × (least_scratch ≤ length scratch.old) }
+    requires { Holding n room.old × (hint_count ≤ length hints.old) × (at ≤ length s.now) × (least_scratch ≤ length scratch.old) }
     ensures { FactorIs factor plain n s.now at room.old room.new scratch.old scratch.new result }
 {
     if stands_at(s, at, b'*') {
@@ -225,7 +225,7 @@ pub(crate) fn read_summand(
     at: usize,
     scratch: &mut [u64],
 ) -> SummandRead
-    requires { Holding n room.old × (hintCount ≤ length hints.old) × (at ≤ length s.now) × (least_scratch ≤ length scratch.old) }
+    requires { Holding n room.old × (hint_count ≤ length hints.old) × (at ≤ length s.now) × (least_scratch ≤ length scratch.old) }
     ensures { SummandIs summand plain n s.now at room.old room.new scratch.old scratch.new result }
 {
     let i = read_id(s, at);

@@ -1,7 +1,7 @@
 // The pairs behind a sign: a sum of summands, or PAC's sum or product.
 ghost use Rattle.std.specs.Prelude.{◌≡◌, ◌≤◌, ◌<◌, length};
 ghost use Rattle.limits.specs.Limits.{least_scratch};
-ghost use Rattle.names.specs.Names.{Holding, hintCount};
+ghost use Rattle.names.specs.Names.{Holding, hint_count};
 ghost use Rattle.table.specs.Table.{store_of_columns};
 ghost use Rattle.sums.specs.Sums.{PoolHolds};
 ghost use Rattle.published.specs.Pairs.{SumIs, pairs_behind};
@@ -27,7 +27,7 @@ fn pac_pairs<'a>(
     at: usize,
     scratch: &mut [u64],
 ) -> SumRead
-    requires { (b ≡ 37 → ⊥) × PoolHolds starts.now counts.now stored pool.now × (0 < stored → (1 ≤ k) × (k ≤ 64)) × Holding n room.old × (hintCount ≤ length hints.old) × (at ≤ length s.now)
+    requires { (b ≡ 37 → ⊥) × PoolHolds starts.now counts.now stored pool.now × (0 < stored → (1 ≤ k) × (k ≤ 64)) × Holding n room.old × (hint_count ≤ length hints.old) × (at ≤ length s.now)
         × (least_scratch ≤ length scratch.old) }
     ensures { SumIs k (store_of_columns indices.now starts.now counts.now pool.now stored) (pairs_behind b) plain n s.now at room.old room.new scratch.old scratch.new result }
 {
@@ -58,7 +58,7 @@ pub(crate) fn pairs_behind<'a>(
     at: usize,
     scratch: &mut [u64],
 ) -> SumRead
-    requires { PoolHolds starts.now counts.now stored pool.now × (0 < stored → (1 ≤ k) × (k ≤ 64)) × Holding n room.old × (hintCount ≤ length hints.old) × (at ≤ length s.now)
+    requires { PoolHolds starts.now counts.now stored pool.now × (0 < stored → (1 ≤ k) × (k ≤ 64)) × Holding n room.old × (hint_count ≤ length hints.old) × (at ≤ length s.now)
         × (least_scratch ≤ length scratch.old) }
     ensures { SumIs k (store_of_columns indices.now starts.now counts.now pool.now stored) (pairs_behind b) plain n s.now at room.old room.new scratch.old scratch.new result }
 {

@@ -3,7 +3,7 @@ ghost use Rattle.std.specs.Prelude.{◌≡◌, false, ℕ, ◌≤◌, ◌<◌, l
 ghost use Rattle.limits.specs.Limits.{least_scratch};
 ghost use Rattle.paper.specs.Rules.{Store};
 ghost use Rattle.paper.specs.Published.{constraint, target, read_by};
-ghost use Rattle.names.specs.Names.{Holding, hintCount};
+ghost use Rattle.names.specs.Names.{Holding, hint_count};
 ghost use Rattle.table.specs.Table.{store_of_columns};
 ghost use Rattle.sums.specs.Sums.{PoolHolds};
 ghost use Rattle.steps.specs.declared.said.Said.TheVariants.{Refused};
@@ -88,7 +88,7 @@ fn read_constraint(
     s: &[u8],
     scratch: &mut [u64],
 ) -> StatementRead
-    requires { Holding n room.old × (hintCount ≤ length hints.old) × (least_scratch ≤ length scratch.old) }
+    requires { Holding n room.old × (hint_count ≤ length hints.old) × (least_scratch ≤ length scratch.old) }
     ensures { (k : ℕ) (store : Store) → NamedItemIs k store plain n (item_at constraint s.now 0) room.old room.new scratch.old scratch.new result }
 {
     let i = read_id(s, 0);
@@ -118,7 +118,7 @@ fn read_target(
     s: &[u8],
     scratch: &mut [u64],
 ) -> StatementRead
-    requires { Holding n room.old × (hintCount ≤ length hints.old) × (least_scratch ≤ length scratch.old) }
+    requires { Holding n room.old × (hint_count ≤ length hints.old) × (least_scratch ≤ length scratch.old) }
     ensures { (k : ℕ) (store : Store) → NamedItemIs k store plain n (item_at target s.now 0) room.old room.new scratch.old scratch.new result }
 {
     let p = read_polynomial(plain, room, hints, n, s, 0, scratch, scratch::STATED);
@@ -153,7 +153,7 @@ pub fn read_statement<'a>(
     ended: bool,
     scratch: &mut [u64],
 ) -> StatementRead
-    requires { PoolHolds starts.now counts.now stored pool.now × (0 < stored → (1 ≤ k) × (k ≤ 64)) × Holding n room.old × (hintCount ≤ length hints.old)
+    requires { PoolHolds starts.now counts.now stored pool.now × (0 < stored → (1 ≤ k) × (k ≤ 64)) × Holding n room.old × (hint_count ≤ length hints.old)
         × (least_scratch ≤ length scratch.old) }
     ensures { NamedItemIs k (store_of_columns indices.now starts.now counts.now pool.now stored) plain n (read_by (reader_of kind) (record { content = s.now; ended = ended })) room.old room.new scratch.old scratch.new result }
 {

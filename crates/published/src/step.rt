@@ -4,7 +4,7 @@ ghost use Rattle.limits.specs.Limits.{least_scratch};
 ghost use Rattle.paper.specs.Grammar.{Bytes};
 ghost use Rattle.paper.specs.Rules.{Store};
 ghost use Rattle.paper.specs.Published.{linear, delete, extend, proof_step};
-ghost use Rattle.names.specs.Names.{Holding, hintCount};
+ghost use Rattle.names.specs.Names.{Holding, hint_count};
 ghost use Rattle.table.specs.Table.{store_of_columns};
 ghost use Rattle.sums.specs.Sums.{PoolHolds};
 ghost use Rattle.published.specs.Pairs.{IdAt, pairs_behind};
@@ -39,7 +39,7 @@ fn read_linear<'a>(
     at: usize,
     scratch: &mut [u64],
 ) -> StatementRead
-    requires { PoolHolds starts.now counts.now stored pool.now × (0 < stored → (1 ≤ k) × (k ≤ 64)) × Holding n room.old × (hintCount ≤ length hints.old) × (at ≤ length s.now)
+    requires { PoolHolds starts.now counts.now stored pool.now × (0 < stored → (1 ≤ k) × (k ≤ 64)) × Holding n room.old × (hint_count ≤ length hints.old) × (at ≤ length s.now)
         × (least_scratch ≤ length scratch.old) }
     ensures { (h : IdAt s.now 0 i) → NamedItemIs k (store_of_columns indices.now starts.now counts.now pool.now stored) plain n (item_at (linear (pairs_behind b) h.value) s.now at) room.old room.new scratch.old scratch.new result }
 {
@@ -76,7 +76,7 @@ fn read_extend(
     at: usize,
     scratch: &mut [u64],
 ) -> StatementRead
-    requires { Holding n room.old × (hintCount ≤ length hints.old) × (at ≤ length s.now) × (least_scratch ≤ length scratch.old) }
+    requires { Holding n room.old × (hint_count ≤ length hints.old) × (at ≤ length s.now) × (least_scratch ≤ length scratch.old) }
     ensures { (h : IdAt s.now 0 i) (k : ℕ) (store : Store) → NamedItemIs k store plain n (item_at (extend h.value) s.now at) room.old room.new scratch.old scratch.new result }
 {
     let v = read_name(plain, room, hints, n, s, at);
@@ -127,7 +127,7 @@ pub(crate) fn read_step<'a>(
     s: &[u8],
     scratch: &mut [u64],
 ) -> StatementRead
-    requires { PoolHolds starts.now counts.now stored pool.now × (0 < stored → (1 ≤ k) × (k ≤ 64)) × Holding n room.old × (hintCount ≤ length hints.old)
+    requires { PoolHolds starts.now counts.now stored pool.now × (0 < stored → (1 ≤ k) × (k ≤ 64)) × Holding n room.old × (hint_count ≤ length hints.old)
         × (least_scratch ≤ length scratch.old) }
     ensures { NamedItemIs k (store_of_columns indices.now starts.now counts.now pool.now stored) plain n (item_at proof_step s.now 0) room.old room.new scratch.old scratch.new result }
 {

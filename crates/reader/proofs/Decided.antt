@@ -18,7 +18,7 @@ use Rattle.terms.specs.Terms.{decode}
 use Rattle.terms.proofs.Decided.{one_front}
 use Rattle.written.specs.Worded.{worded}
 use Rattle.paper.specs.Grammar.{Bytes, Line as TextLine, Reader, polynomial}
-use Rattle.paper.specs.Statement.{Written, within, tooManyTerms}
+use Rattle.paper.specs.Statement.{Written, within, too_many_terms}
 use Rattle.paper.specs.Rules.{first}
 use Rattle.paper.proofs.Reading.{clash}
 use Rattle.reader.specs.Places.{Got, Fails}
@@ -105,7 +105,7 @@ one_word read s at (NoWord v d) (NoWord w e) x y = ap₂ (λ i j. NoWord i j) (x
 
 -- an accepted field has few enough terms
 few : {greatest : ℕ} {s : Bytes} {at : ℕ} {out r : List ℕ} {f : FieldRead} → FieldAt greatest s at out r f → f.why ≡ ACCEPTED → f.terms ≤ field_terms
-unfolding tooManyTerms
+unfolding too_many_terms
 few {greatest} x a = omega (arith, x.terms, ltb-false field_terms (length x.value) (neither (all_fine (field_marks greatest x.value)) (ltb field_terms (length x.value)) (sym x.verdict ∙ a)).1)
 
 -- ---- `read_field`: of a refused one the words of the most terms of a field are not decided
@@ -123,7 +123,7 @@ module _ (greatest : ℕ) (s : Bytes) (at : ℕ) (out r q : List ℕ) (f g : Fie
       }
     where
       verdict_of : Written → ℕ
-      verdict_of p = first ((NUMBER, not (all_fine (field_marks greatest p))) ∷ (TERMS, tooManyTerms p) ∷ [])
+      verdict_of p = first ((NUMBER, not (all_fine (field_marks greatest p))) ∷ (TERMS, too_many_terms p) ∷ [])
 
   stops_once : FieldStops s at f → FieldStops s at g → f ≡ g
   stops_once x y =

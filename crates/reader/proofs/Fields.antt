@@ -22,7 +22,7 @@ use Rattle.words.specs.Words.{number_of}
 use Rattle.terms.specs.Terms.{term_of}
 use Rattle.written.specs.Worded.{signed_word, worded_term}
 use Rattle.paper.specs.Grammar.{Bytes, got, Reader, each, decimal, sign, term, more_variables}
-use Rattle.paper.specs.Statement.{within, isVariable, setOf}
+use Rattle.paper.specs.Statement.{within, is_variable, set_of}
 use Rattle.paper.specs.Spelling.{spell_number}
 use Rattle.paper.proofs.Reading.{takes_decimal, each_stop, each_end}
 use Rattle.reader.specs.Places.{Got, Fails}
@@ -122,39 +122,39 @@ module _ (low high : ℕ) (s : Bytes) (at before : ℕ) where
       (mark_outside (within low high) before r.value (omega (arith, decimal_ends s i r.value e r.taken)) r.outside)
 
 -- ---- variables
-pub variable_range : (v : ℕ) → within 0 (variables - 1) v ≡ isVariable v
-unfolding isVariable
+pub variable_range : (v : ℕ) → within 0 (variables - 1) v ≡ is_variable v
+unfolding is_variable
 variable_range v =
     bool_ext (within 0 (variables - 1) v) (ltb v variables)
     (λ t. lt-ltb v variables (omega (arith, leb-true v (variables - 1) (and_right (leb 0 v) (leb v (variables - 1)) t))))
     (λ t. and_both (leb 0 v) (leb v (variables - 1)) (le-leb 0 v (omega arith)) (le-leb v (variables - 1) (omega (arith, ltb-true v variables t))))
 
-variable_mark : (v : ℕ) → mark (within 0 (variables - 1)) 1 v ≡ mark isVariable 1 v
+variable_mark : (v : ℕ) → mark (within 0 (variables - 1)) 1 v ≡ mark is_variable 1 v
 unfolding mark
 variable_mark v = λ i. record { before = 1; width = length (spell_number v); fine = variable_range v i }
 
-pub set_of_more : (vs : List ℕ) (v : ℕ) → setOf (vs ++ (v ∷ [])) ≡ bit_or (2 ^ v) (setOf vs)
-unfolding setOf
+pub set_of_more : (vs : List ℕ) (v : ℕ) → set_of (vs ++ (v ∷ [])) ≡ bit_or (2 ^ v) (set_of vs)
+unfolding set_of
 set_of_more [] v = refl
 set_of_more (u ∷ vs) v =
     ap (bit_or (2 ^ u)) (set_of_more vs v)
-    ∙ sym (or_assoc (2 ^ u) (2 ^ v) (setOf vs))
-    ∙ ap (λ (x : ℕ). bit_or x (setOf vs)) (or_comm (2 ^ u) (2 ^ v))
-    ∙ or_assoc (2 ^ v) (2 ^ u) (setOf vs)
+    ∙ sym (or_assoc (2 ^ u) (2 ^ v) (set_of vs))
+    ∙ ap (λ (x : ℕ). bit_or x (set_of vs)) (or_comm (2 ^ u) (2 ^ v))
+    ∙ or_assoc (2 ^ v) (2 ^ u) (set_of vs)
 
 -- variables stand from at up to i
 abbrev pub VariablesTo : Bytes → ℕ → List ℕ → ℕ → ℕ → ℕ → Type 0
-VariablesTo s at set why byte i = ItemsUpTo (code ".") decimal (λ vs. Told (variable_marks vs) at i why byte × (why ≡ ACCEPTED → number_of set ≡ setOf vs)) s at i
+VariablesTo s at set why byte i = ItemsUpTo (code ".") decimal (λ vs. Told (variable_marks vs) at i why byte × (why ≡ ACCEPTED → number_of set ≡ set_of vs)) s at i
 
 pub variables_none : (s : Bytes) (at : ℕ) → at ≤ length s → VariablesTo s at (replicate set_words 0) ACCEPTED 0 at
-unfolding variable_marks gather number_of setOf
+unfolding variable_marks gather number_of set_of
 variables_none s at h = passed_none (code ".") decimal s at h (told_none at, λ e. refl)
 
 -- the marks with one variable more, behind a dot
 one_variable : (vs : List ℕ) (v : ℕ) {at e why byte : ℕ} → Told (variable_marks vs ++ (mark (within 0 (variables - 1)) 1 v ∷ [])) at e why byte
     → Told (variable_marks (vs ++ (v ∷ []))) at e why byte
 unfolding variable_marks
-one_variable vs v t = rw (gather_last (λ v. mark isVariable 1 v ∷ []) vs v, ← variable_mark v) t
+one_variable vs v t = rw (gather_last (λ v. mark is_variable 1 v ∷ []) vs v, ← variable_mark v) t
 
 module _ (s : Bytes) (at i why byte : ℕ) (set : List ℕ) (p : VariablesTo s at set why byte i) (here : stands_at s i (code ".") ≡ true) where
   pub variables_more : {v e : ℕ} (set' : List ℕ) → InRange decimal 0 (variables - 1) s (i + 1) v e → number_of set' ≡ bit_or (2 ^ v) (number_of set)

@@ -21,7 +21,7 @@ use Rattle.words.proofs.Parts.{within_refl, within_trans, within_wider}
 use Rattle.terms.specs.Terms.{decode}
 use Rattle.written.specs.Worded.{worded}
 use Rattle.paper.specs.Grammar.{Bytes, got, term, as_written, polynomial, more_terms}
-use Rattle.paper.specs.Statement.{WrittenTerm, Written, tooManyTerms}
+use Rattle.paper.specs.Statement.{WrittenTerm, Written, too_many_terms}
 use Rattle.paper.specs.Spelling.{spell_number, spell_digits}
 use Rattle.paper.specs.Rules.{first}
 use Rattle.paper.proofs.Reading.{takes_term, in_field, each_none}
@@ -108,7 +108,7 @@ more_tests n =
 
 excess_first : (greatest at i : ℕ) (t : WrittenTerm) (ts : List WrittenTerm) → i ≡ at + span (term_marks greatest 0 t)
     → more_too_many greatest i ts ≡ first_too_many greatest at (t ∷ ts)
-unfolding more_too_many first_too_many tooManyTerms field_marks
+unfolding more_too_many first_too_many too_many_terms field_marks
 excess_first greatest at i t ts h =
     let e : i + span (more_marks greatest (take (field_terms - 1) ts)) + 2 ≡ at + span (term_marks greatest 0 t ++ more_marks greatest (take (field_terms - 1) ts)) + 2
     = omega (arith, span_append (term_marks greatest 0 t) (more_marks greatest (take (field_terms - 1) ts))) in
@@ -137,7 +137,7 @@ module _ (greatest : ℕ) (s : Bytes) (at : ℕ) (out : List ℕ) (t : TermRead)
 
       pub field_zero : {f : FieldRead} → r.end ≡ at + 1 → get_or s at 0 ≡ 48 → f ≡ record { why = ACCEPTED; end = r.end; terms = 0; outside = 0; extra = 0 }
           → FieldIs greatest s at out out' f
-      unfolding as_written field_marks mark span total first_outside all_fine every first tooManyTerms first_too_many spell_number spell_digits worded decode
+      unfolding as_written field_marks mark span total first_outside all_fine every first too_many_terms first_too_many spell_number spell_digits worded decode
       field_zero e b q =
           let x = part_took h n in
           let y = part_took k.said m in
@@ -164,7 +164,7 @@ module _ (greatest : ℕ) (s : Bytes) (at : ℕ) (out : List ℕ) (t : TermRead)
       pub field_terms_law : (r.end ≡ at + 1 → get_or s at 0 ≡ 48 → ⊥) → (both why byte : ℕ) → both ≡ first_of t.why r.why
           → why ≡ first_of both (cond (ltb field_terms r.terms) TERMS ACCEPTED) → byte ≡ first_of t.byte r.byte
           → FieldIs greatest s at out out' (record { why = why; end = r.end; terms = r.terms; outside = byte; extra = r.extra })
-      unfolding field_marks tooManyTerms worded decode
+      unfolding field_marks too_many_terms worded decode
       field_terms_law z both why byte eb ew ey =
           let x = part_took h n in
           let y = part_took k.said m in

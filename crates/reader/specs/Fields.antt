@@ -6,7 +6,7 @@ use Rattle.words.specs.Parts.{Within}
 use Rattle.words.specs.Words.{number_of}
 use Rattle.terms.specs.Terms.{term_of, decode}
 use Rattle.paper.specs.Grammar.{Bytes, Reader, decimal, sign, term, polynomial, more_variables, more_terms}
-use Rattle.paper.specs.Statement.{WrittenTerm, Written, within, tooManyTerms, setOf}
+use Rattle.paper.specs.Statement.{WrittenTerm, Written, within, too_many_terms, set_of}
 use Rattle.paper.specs.Rules.{first}
 use Rattle.written.specs.Worded.{signed_word, worded_term, worded}
 use Rattle.reader.specs.Places.{Got, Fails}
@@ -44,7 +44,7 @@ Part read marks P s at e why byte = ((why ≡ FORM) × Fails read s at e) ⊎ To
 
 -- ---- parts of a field
 abbrev pub VariablesAt : Bytes → ℕ → Variables → Type 0
-VariablesAt s at r = Part more_variables variable_marks (λ vs. r.why ≡ ACCEPTED → number_of r.set ≡ setOf vs) s at r.end r.why r.byte
+VariablesAt s at r = Part more_variables variable_marks (λ vs. r.why ≡ ACCEPTED → number_of r.set ≡ set_of vs) s at r.end r.why r.byte
 
 -- a sign or none, and a magnitude behind it
 pub record MagnitudeAt (greatest : ℕ) (s : Bytes) (at : ℕ) (r : Magnitude) : Type 0 where
@@ -86,7 +86,7 @@ pub record FieldAt (greatest : ℕ) (s : Bytes) (at : ℕ) (out out' : List ℕ)
   pub value : Written
   pub taken : Got polynomial s at value r.end
   pub ends : r.end ≡ at + span (field_marks greatest value)
-  pub verdict : r.why ≡ first ((NUMBER, not (all_fine (field_marks greatest value))) ∷ (TERMS, tooManyTerms value) ∷ [])
+  pub verdict : r.why ≡ first ((NUMBER, not (all_fine (field_marks greatest value))) ∷ (TERMS, too_many_terms value) ∷ [])
   pub outside : r.outside ≡ first_outside at (field_marks greatest value)
   pub excess : r.extra ≡ first_too_many greatest at value
   pub terms : r.terms ≡ length value

@@ -2,7 +2,7 @@
 use Rattle.std.specs.Prelude.{Bool, true, cond, List, [], ◌∷◌, ◌++◌, ℕ, ◌+◌, length, take}
 use Rattle.ground.specs.Lists.{every, total, gather}
 use Rattle.limits.specs.Limits.{field_terms}
-use Rattle.paper.specs.Statement.{WrittenTerm, Written, within, isVariable, tooManyTerms}
+use Rattle.paper.specs.Statement.{WrittenTerm, Written, within, is_variable, too_many_terms}
 use Rattle.paper.specs.Spelling.{spell_number}
 
 pub record Mark : Type 0 where
@@ -30,7 +30,7 @@ mark fine before n = record { before = before; width = length (spell_number n); 
 
 -- each behind a dot
 unfoldable pub variable_marks : List ℕ → List Mark
-variable_marks vs = gather (λ v. mark isVariable 1 v ∷ []) vs
+variable_marks vs = gather (λ v. mark is_variable 1 v ∷ []) vs
 
 module _ (greatest : ℕ) where
   unfoldable pub term_marks : ℕ → WrittenTerm → List Mark
@@ -47,4 +47,4 @@ module _ (greatest : ℕ) where
 
   -- in a field behind `at` bytes: the byte, counted from 1, where the first term too many begins; 0 where there is none
   unfoldable pub first_too_many : ℕ → Written → ℕ
-  first_too_many at p = cond (tooManyTerms p) (at + span (field_marks (take field_terms p)) + 2) 0
+  first_too_many at p = cond (too_many_terms p) (at + span (field_marks (take field_terms p)) + 2) 0

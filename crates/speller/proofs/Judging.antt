@@ -11,7 +11,7 @@ use Rattle.ground.proofs.Tests.{by_cond, and_both}
 use Rattle.limits.specs.Limits.{greatest_magnitude}
 use Rattle.limits.specs.Verdicts.{ACCEPTED, SHORT, FORM, NUMBER, TERMS, FULL}
 use Rattle.paper.specs.Grammar.{Bytes, Read, got, stuck, next, end, polynomial}
-use Rattle.paper.specs.Statement.{Written, modulo, is_ring, in_range, tooManyTerms, reduced}
+use Rattle.paper.specs.Statement.{Written, modulo, is_ring, in_range, too_many_terms, reduced}
 use Rattle.paper.specs.Rules.{first}
 use Rattle.paper.specs.Spelling.{Spelled, refuse, spell, spelling_rules, spell_read, whole_field}
 use Rattle.paper.proofs.ReadBack.{whole_end}
@@ -37,11 +37,11 @@ module _ (k room : ℕ) (p : Written) where
   request_number e = rw e
 
   module _ (e : (is_ring (modulo k) && in_range p) ≡ true) where
-    pub request_terms : tooManyTerms p ≡ true → spell_read k room (got p []) ≡ refuse TERMS
+    pub request_terms : too_many_terms p ≡ true → spell_read k room (got p []) ≡ refuse TERMS
     unfolding spell_read spelling_rules first
     request_terms f = rw (e, f)
 
-    pub request_fitted : tooManyTerms p ≡ false → spell_read k room (got p []) ≡ fitted (spell k (reduced k p)) room
+    pub request_fitted : too_many_terms p ≡ false → spell_read k room (got p []) ≡ fitted (spell k (reduced k p)) room
     unfolding spell_read spelling_rules first fitted
     request_fitted f = rw (e, f) (go (ltb room (length (spell k (reduced k p)))))
       where
@@ -98,7 +98,7 @@ module _ {field : Bytes} {s r : List ℕ} {f : FieldRead} (h : FieldIs greatest_
         accepted = λ z. let w = field_holds took z in (record { value = took.value; reads = ended; ranged = w.ranged; short = w.short; ring = g }, w);
       }
         where
-          verdict : (room : ℕ) (x y : Bool) → in_range took.value ≡ x → tooManyTerms took.value ≡ y → (first ((NUMBER, not x) ∷ (TERMS, y) ∷ []) ≡ ACCEPTED → ⊥)
+          verdict : (room : ℕ) (x y : Bool) → in_range took.value ≡ x → too_many_terms took.value ≡ y → (first ((NUMBER, not x) ∷ (TERMS, y) ∷ []) ≡ ACCEPTED → ⊥)
               → spell_read k room (got took.value []) ≡ refuse (first ((NUMBER, not x) ∷ (TERMS, y) ∷ []))
           verdict room false y a b z = request_number k room took.value (ap (λ (x : Bool). is_ring (modulo k) && x) a ∙ and-false (is_ring (modulo k)))
           verdict room true true a b z = request_terms k room took.value (and_both (is_ring (modulo k)) (in_range took.value) g a) b
@@ -117,7 +117,7 @@ unfolding spell_read spelling_rules first
 not_short k room (stuck s) = refl
 not_short k room (got p s) =
     by_cond (λ (v : ℕ). P v) (not (is_ring (modulo k) && in_range p)) (λ _. refl)
-    (λ _. by_cond (λ (v : ℕ). P v) (tooManyTerms p) (λ _. refl)
+    (λ _. by_cond (λ (v : ℕ). P v) (too_many_terms p) (λ _. refl)
     (λ _. by_cond (λ (v : ℕ). P v) (ltb room (length (spell k (reduced k p)))) (λ _. refl) (λ _. refl)))
   where
     done : Spelled

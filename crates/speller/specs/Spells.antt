@@ -2,7 +2,7 @@
 use Rattle.std.specs.Prelude.{◌≡◌, true, false, cond, List, [], ℕ, ltb, length}
 use Rattle.limits.specs.Verdicts.{ACCEPTED, FULL}
 use Rattle.paper.specs.Grammar.{Bytes, got, polynomial}
-use Rattle.paper.specs.Statement.{Written, modulo, is_ring, in_range, tooManyTerms}
+use Rattle.paper.specs.Statement.{Written, modulo, is_ring, in_range, too_many_terms}
 use Rattle.paper.specs.Spelling.{Spelled, refuse, spell_read, whole_field, spell_field, output_after, scratch_after}
 use Rattle.written.specs.Worded.{Holds}
 use Rattle.speller.specs.declared.Spelled.{Spelled as Answer}
@@ -33,7 +33,7 @@ pub record Accepts (field : Bytes) (k : ℕ) : Type 0 where
   pub value : Written
   pub reads : polynomial field ≡ got value []
   pub ranged : in_range value ≡ true
-  pub short : tooManyTerms value ≡ false
+  pub short : too_many_terms value ≡ false
   pub ring : is_ring (modulo k) ≡ true
 
 -- v is the verdict before any room is looked at; an accepted field stands in the n terms at the front of the words

@@ -8,7 +8,7 @@ use Rattle.ground.proofs.Tests.{and_left, and_right}
 use Rattle.limits.specs.Limits.{text_bytes}
 use Rattle.limits.specs.Verdicts.{ACCEPTED}
 use Rattle.paper.specs.Grammar.{Bytes, got}
-use Rattle.paper.specs.Statement.{Written, Pair, modulo, Statement, onRing, onExt, newIndex, namedIndices, fields, is_ring, isIndex, isVariable, in_range, numbersInRange}
+use Rattle.paper.specs.Statement.{Written, Pair, modulo, Statement, on_ring, on_ext, new_index, named_indices, fields, is_ring, is_index, is_variable, in_range, numbers_in_range}
 use Rattle.paper.specs.Rules.{Store}
 use Rattle.paper.specs.Answer.{Item}
 use Rattle.written.specs.Worded.{Holds}
@@ -31,7 +31,7 @@ pub record Spoken (k : ℕ) (store : Store) (i : Item) (words : List ℕ) (sum :
   pub rest : Bytes
   pub reads : i.reads ≡ got value rest
   pub accepted : i.written ≡ ACCEPTED
-  pub ranged : numbersInRange value ≡ true
+  pub ranged : numbers_in_range value ≡ true
   pub means : Means k store words sum value said
 
 -- not a refusal
@@ -52,14 +52,14 @@ module _ {k : ℕ} {store : Store} {i : Item} {words : List ℕ} {sum : Sum} {sa
   spoken (passes l st r f a g m) e t = record { short = l; value = st; rest = r; reads = f; accepted = a; ranged = g; means = subst (Means k store words sum st) e m }
 
 -- the numbers of the statement x that a step looks at
-ranges : {st x : Statement} → st ≡ x → numbersInRange st ≡ true → (onRing true is_ring x ≡ true) × (onExt true (λ i v p. isVariable v) x ≡ true)
-unfolding numbersInRange
+ranges : {st x : Statement} → st ≡ x → numbers_in_range st ≡ true → (on_ring true is_ring x ≡ true) × (on_ext true (λ i v p. is_variable v) x ≡ true)
+unfolding numbers_in_range
 ranges {st} {x} e h =
-    let r : Bool = onRing true is_ring x in
-    let v : Bool = onExt true (λ i v p. isVariable v) x in
-    let n : Bool = every isIndex (newIndex x ++ namedIndices x) in
+    let r : Bool = on_ring true is_ring x in
+    let v : Bool = on_ext true (λ i v p. is_variable v) x in
+    let n : Bool = every is_index (new_index x ++ named_indices x) in
     let f : Bool = every in_range (fields x) in
-    let b : (r && v) ≡ true = and_left (r && v) n (and_left (r && v && n) f (subst (λ (st : Statement). numbersInRange st ≡ true) e h)) in
+    let b : (r && v) ≡ true = and_left (r && v) n (and_left (r && v && n) f (subst (λ (st : Statement). numbers_in_range st ≡ true) e h)) in
     (and_left r v b, and_right r v b)
 
 module _ {capacity : ℕ} {item : Item} {s : State} {pool words words' : List ℕ} {read : ItemRead} (x : ItemIs s.ring (store_of s.table pool) item words words' read) where
@@ -82,7 +82,7 @@ module _ {capacity : ℕ} {item : Item} {s : State} {pool words words' : List �
       (room_kept x.kept.same room, (h.0, h.2), (m.0, m.1))
 
   pub ask_ext : {i v n : ℕ} → read.said ≡ Ext i v n → Room capacity s pool words
-      → Room capacity s pool words' × (isVariable v ≡ true) × ((p : Written) × Holds p n stated_at words')
+      → Room capacity s pool words' × (is_variable v ≡ true) × ((p : Written) × Holds p n stated_at words')
   ask_ext e room =
       let a = spoken x.tells e tt in
       let h = a.means in

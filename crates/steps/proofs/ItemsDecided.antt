@@ -17,7 +17,7 @@ use Rattle.words.proofs.Laws.{Words}
 use Rattle.terms.specs.Terms.{decode}
 use Rattle.terms.proofs.Decided.{one_run_at}
 use Rattle.paper.specs.Grammar.{Bytes, Read, got, stuck}
-use Rattle.paper.specs.Statement.{Written, Pair, bits, Statement, ring, input, goal, lin, del, ext, onLin}
+use Rattle.paper.specs.Statement.{Written, Pair, bits, Statement, ring, input, goal, lin, del, ext, on_lin}
 use Rattle.paper.specs.Rules.{Store}
 use Rattle.paper.specs.Answer.{Item}
 use Rattle.written.specs.Worded.{worded}
@@ -49,7 +49,7 @@ polynomial_of (del i) = []
 polynomial_of (ext i v p) = p
 
 abbrev pairs_of : Statement → List Pair
-pairs_of st = onLin [] (λ i p qs. qs) st
+pairs_of st = on_lin [] (λ i p qs. qs) st
 
 -- the terms that are said to stand in the stated region
 abbrev pub terms_in : Said → ℕ

@@ -3,7 +3,7 @@ use Rattle.std.specs.Prelude.{◌≡◌, true, false, cond, List, ℕ, ◌+◌, 
 use Rattle.limits.specs.Verdicts.{ACCEPTED, LONGLINE, FORM, TERMS}
 use Rattle.words.specs.Parts.{Within}
 use Rattle.paper.specs.Grammar.{Bytes, Read, got, stuck}
-use Rattle.paper.specs.Statement.{Written, Pair, modulo, Statement, ring, input, goal, lin, del, ext, numbersInRange}
+use Rattle.paper.specs.Statement.{Written, Pair, modulo, Statement, ring, input, goal, lin, del, ext, numbers_in_range}
 use Rattle.paper.specs.Rules.{Store}
 use Rattle.paper.specs.Answer.{stands, refused, index_of, Item, judge_item}
 use Rattle.written.specs.Worded.{Holds}
@@ -35,7 +35,7 @@ pub data Tells (k : ℕ) (store : Store) (i : Item) (words : List ℕ) (sum : Su
   long : i.long ≡ true → said ≡ Refused LONGLINE → Tells k store i words sum said
   stops : i.long ≡ false → (r : Bytes) → i.reads ≡ stuck r → said ≡ Refused FORM → Tells k store i words sum said
   turns : i.long ≡ false → (st : Statement) (r : Bytes) → i.reads ≡ got st r → said ≡ Refused i.written → (i.written ≡ ACCEPTED → ⊥) → Tells k store i words sum said
-  passes : i.long ≡ false → (st : Statement) (r : Bytes) → i.reads ≡ got st r → i.written ≡ ACCEPTED → numbersInRange st ≡ true → Means k store words sum st said
+  passes : i.long ≡ false → (st : Statement) (r : Bytes) → i.reads ≡ got st r → i.written ≡ ACCEPTED → numbers_in_range st ≡ true → Means k store words sum st said
       → Tells k store i words sum said
 
 -- reading it leaves the goal's region and all behind it

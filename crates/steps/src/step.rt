@@ -1,7 +1,7 @@
 // The six steps: numbers, and polynomials as written, in the regions of the scratch.
 ghost use Rattle.std.specs.Prelude.{◌≡◌, true, List, ℕ, ◌≤◌};
 ghost use Rattle.limits.specs.Limits.{text_bytes};
-ghost use Rattle.paper.specs.Statement.{Written, Pair, modulo, ring, input, goal, lin, del, ext, is_ring, isVariable};
+ghost use Rattle.paper.specs.Statement.{Written, Pair, modulo, ring, input, goal, lin, del, ext, is_ring, is_variable};
 ghost use Rattle.written.specs.Worded.{Holds};
 ghost use Rattle.table.specs.Table.{store_of};
 ghost use Rattle.scratch.specs.Scratch.{stated_at};
@@ -174,7 +174,7 @@ impl State {
         scratch: &mut [u64],
         capacity: usize,
     ) -> Step
-        requires { Room capacity self pool.old scratch.old × (isVariable v ≡ true) × ((p : Written) × Holds p n stated_at scratch.old) }
+        requires { Room capacity self pool.old scratch.old × (is_variable v ≡ true) × ((p : Written) × Holds p n stated_at scratch.old) }
         ensures { (p : Written) → Holds p n stated_at scratch.old
             → Stepped capacity (ext index v p) self pool.old scratch.old result pool.new scratch.new }
     {

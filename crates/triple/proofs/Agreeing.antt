@@ -13,15 +13,15 @@ use Rattle.ground.proofs.Tests.{split, cond_no, or_cases, or_none_left, or_none_
 use Rattle.limits.specs.Limits.{name_bytes}
 use Rattle.limits.specs.Verdicts.{ACCEPTED, LONGLINE, FORM, NUMBER, TERMS, NAMES}
 use Rattle.paper.specs.Grammar.{Bytes, got, stuck}
-use Rattle.paper.specs.Statement.{Statement, renamed, fields, numbersInRange, tooManyTerms}
+use Rattle.paper.specs.Statement.{Statement, renamed, fields, numbers_in_range, too_many_terms}
 use Rattle.paper.specs.Rules.{first, Store}
 use Rattle.paper.specs.Answer.{index_of}
 use Rattle.paper.specs.Published.{Name, Named, NamedItem}
 use Rattle.paper.specs.Named.{names_in, is_plain, plain_number, same_name, with_names, bad_name, named_rules, numbered}
-use Rattle.paper.proofs.Names.{never, same-name, isIn}
+use Rattle.paper.proofs.Names.{never, same_name_law, is_in}
 use Rattle.paper.proofs.PlainSpelled.{plain_variable, plain_short}
 use Rattle.paper.proofs.Renamed.{numbers_same, index_same, many_same}
-use Rattle.names.specs.Names.{held, numberBy, badBy, namesWith}
+use Rattle.names.specs.Names.{held, number_by, bad_by, names_with}
 use Rattle.named.specs.Reads.{NamesAre, number_in}
 use Rattle.named.proofs.Naming.{Alike, any_alike, numbers_with, bad_with, statement_alike}
 use Rattle.steps.specs.declared.said.Said.{Said}
@@ -37,41 +37,41 @@ plain_fine : (n : Name) → is_plain n ≡ true → bad_name plain_number n ≡ 
 unfolding bad_name
 plain_fine n e = rw (le-ltb name_bytes (length n) (plain_short n e), plain_variable n e) refl
 
-not_any : (f : Name → Bool) (ns : List Name) → any f ns ≡ false → (n : Name) → isIn ns n ≡ true → f n ≡ false
+not_any : (f : Name → Bool) (ns : List Name) → any f ns ≡ false → (n : Name) → is_in ns n ≡ true → f n ≡ false
 unfolding any
 not_any f [] e n h = never (sym h)
 not_any f (m ∷ ns) e n h =
-    ⊎_elim (λ s. ap f (sym (same-name m n s)) ∙ or_none_left (f m) (any f ns) e) (not_any f ns (or_none_right (f m) (any f ns) e) n) (or_cases (same_name m n) (isIn ns n) h)
+    ⊎_elim (λ s. ap f (sym (same_name_law m n s)) ∙ or_none_left (f m) (any f ns) e) (not_any f ns (or_none_right (f m) (any f ns) e) n) (or_cases (same_name m n) (is_in ns n) h)
 
 -- ---- G are all names: ms, then ns, then those that come behind; where names are plain it does not matter
 pub record AllNames (plain : Bool) (ms ns post G : List Name) : Type 0 where
   pub by_place : plain ≡ false → G ≡ with_names (with_names ms ns) post
 
 module _ (plain : Bool) (ms ns post G : List Name) (all : AllNames plain ms ns post G) where
-  numbers_of_all : (b : Bool) → plain ≡ b → numberBy b G ≡ numberBy b (namesWith b (namesWith b ms ns) post)
+  numbers_of_all : (b : Bool) → plain ≡ b → number_by b G ≡ number_by b (names_with b (names_with b ms ns) post)
   numbers_of_all true e = refl
-  numbers_of_all false e = ap (numberBy false) (all.by_place e)
+  numbers_of_all false e = ap (number_by false) (all.by_place e)
 
-  pub number_agrees : Alike (numberBy plain G) (numberBy plain (namesWith plain ms ns)) ns
+  pub number_agrees : Alike (number_by plain G) (number_by plain (names_with plain ms ns)) ns
   number_agrees m e = ap (λ (f : Name → ℕ). f m) (numbers_of_all plain refl) ∙ numbers_with plain ms ns post m e
 
   -- where names are plain, none of ns may be bad
-  module _ (clean : plain ≡ true → any (badBy plain (namesWith plain ms ns)) ns ≡ false) where
-    pub bad_agrees : Alike (bad_name (numberBy plain G)) (badBy plain (namesWith plain ms ns)) ns
+  module _ (clean : plain ≡ true → any (bad_by plain (names_with plain ms ns)) ns ≡ false) where
+    pub bad_agrees : Alike (bad_name (number_by plain G)) (bad_by plain (names_with plain ms ns)) ns
     unfolding bad_name
     bad_agrees m e = ap (λ (f : Name → ℕ). bad_name f m) (numbers_of_all plain refl) ∙ go plain clean
       where
-        go : (b : Bool) → (b ≡ true → any (badBy b (namesWith b ms ns)) ns ≡ false) → bad_name (numberBy b (namesWith b (namesWith b ms ns) post)) m ≡ badBy b (namesWith b ms ns) m
+        go : (b : Bool) → (b ≡ true → any (bad_by b (names_with b ms ns)) ns ≡ false) → bad_name (number_by b (names_with b (names_with b ms ns) post)) m ≡ bad_by b (names_with b ms ns) m
         go true h = let p = not_any (λ n. not (is_plain n)) ns (h refl) m e in plain_fine m (not-false (is_plain m) p) ∙ sym p
         go false h = bad_with false ms ns post m e
 
-    pub any_bad_agrees : any (bad_name (numberBy plain G)) ns ≡ any (badBy plain (namesWith plain ms ns)) ns
+    pub any_bad_agrees : any (bad_name (number_by plain G)) ns ≡ any (bad_by plain (names_with plain ms ns)) ns
     any_bad_agrees = any_alike _ _ ns bad_agrees
 
 -- ---- the verdict on what is written
-pub written_accepted : (bad : Bool) (st : Named) → written_by bad st ≡ ACCEPTED → (numbersInRange (renamed unnumbered st) ≡ true) × (bad ≡ false)
+pub written_accepted : (bad : Bool) (st : Named) → written_by bad st ≡ ACCEPTED → (numbers_in_range (renamed unnumbered st) ≡ true) × (bad ≡ false)
 unfolding written_by first
-written_accepted bad st e = go (numbersInRange (renamed unnumbered st)) (any tooManyTerms (fields (renamed unnumbered st))) bad e
+written_accepted bad st e = go (numbers_in_range (renamed unnumbered st)) (any too_many_terms (fields (renamed unnumbered st))) bad e
   where
     go : (n m b : Bool) → cond (not n) NUMBER (cond m TERMS (cond b NAMES ACCEPTED)) ≡ ACCEPTED → (n ≡ true) × (b ≡ false)
     go true false false e = (refl, refl)
@@ -79,7 +79,7 @@ written_accepted bad st e = go (numbersInRange (renamed unnumbered st)) (any too
     go true true b e = absurd (let z : ⊥ = omega arith in z)
     go false m b e = absurd (let z : ⊥ = omega arith in z)
 
-written_number : (bad : Bool) (st : Named) → numbersInRange (renamed unnumbered st) ≡ false → written_by bad st ≡ NUMBER
+written_number : (bad : Bool) (st : Named) → numbers_in_range (renamed unnumbered st) ≡ false → written_by bad st ≡ NUMBER
 unfolding written_by first
 written_number bad st e = rw e refl
 
@@ -87,21 +87,21 @@ written_number bad st e = rw e refl
 module _ {plain : Bool} {n : ℕ} (st : Named) {room room' : Bytes} {names : ℕ} {bad : Bool} (post G : List Name) (all : AllNames plain (held n room) (names_in st) post G)
     (a : NamesAre plain n (names_in st) room room' names bad) where
   module _ (clean : plain ≡ true → bad ≡ false) where
-    bad_by_all : any (bad_name (numberBy plain G)) (names_in st) ≡ bad
+    bad_by_all : any (bad_name (number_by plain G)) (names_in st) ≡ bad
     bad_by_all = any_bad_agrees plain (held n room) (names_in st) post G all (λ p. sym a.some ∙ clean p) ∙ sym a.some
 
-    written_by_all : first (named_rules (numberBy plain G) st) ≡ written_by bad st
+    written_by_all : first (named_rules (number_by plain G) st) ≡ written_by bad st
     unfolding named_rules written_by first
     written_by_all =
-        ap₂ (λ (m b : Bool). cond (not (numbersInRange (renamed unnumbered st))) NUMBER (cond m TERMS (cond b NAMES ACCEPTED))) (many_same (numberBy plain G) unnumbered st) bad_by_all
+        ap₂ (λ (m b : Bool). cond (not (numbers_in_range (renamed unnumbered st))) NUMBER (cond m TERMS (cond b NAMES ACCEPTED))) (many_same (number_by plain G) unnumbered st) bad_by_all
 
-    ranged_by_all : written_by bad st ≡ ACCEPTED → numbersInRange (renamed (numberBy plain G) st) ≡ true
-    ranged_by_all w = let h = written_accepted bad st w in numbers_same (numberBy plain G) st (bad_by_all ∙ h.1) ∙ h.0
+    ranged_by_all : written_by bad st ≡ ACCEPTED → numbers_in_range (renamed (number_by plain G) st) ≡ true
+    ranged_by_all w = let h = written_accepted bad st w in numbers_same (number_by plain G) st (bad_by_all ∙ h.1) ∙ h.0
 
-  renamed_by_all : bad ≡ false → renamed (number_in plain names room') st ≡ renamed (numberBy plain G) st
+  renamed_by_all : bad ≡ false → renamed (number_in plain names room') st ≡ renamed (number_by plain G) st
   renamed_by_all e =
-      ap (λ (ms : List Name). renamed (numberBy plain ms) st) (a.holds e)
-      ∙ sym (statement_alike (numberBy plain G) (numberBy plain (namesWith plain (held n room) (names_in st))) st (number_agrees plain (held n room) (names_in st) post G all))
+      ap (λ (ms : List Name). renamed (number_by plain ms) st) (a.holds e)
+      ∙ sym (statement_alike (number_by plain G) (number_by plain (names_with plain (held n room) (names_in st))) st (number_agrees plain (held n room) (names_in st) post G all))
 
 -- ---- an item that was read, with numbers by f
 module _ (f : Name → ℕ) (i : NamedItem) where
@@ -122,28 +122,28 @@ module _ {k : ℕ} {store : Store} {plain : Bool} {n : ℕ} {i : NamedItem} {roo
     (clean : plain ≡ true → r.bad ≡ false) (post G : List Name)
     (all : (st : Named) (t : Bytes) → i.long ≡ false → i.reads ≡ got st t → AllNames plain (held n room) (names_in st) post G) where
   item_written : (st : Named) (t : Bytes) → i.long ≡ false → i.reads ≡ got st t → NamesAre plain n (names_in st) room room' r.names r.bad
-      → (numbered (numberBy plain G) i).written ≡ written_by r.bad st
-  item_written st t l e a = numbered_written (numberBy plain G) i st t e ∙ written_by_all st post G (all st t l e) a clean
+      → (numbered (number_by plain G) i).written ≡ written_by r.bad st
+  item_written st t l e a = numbered_written (number_by plain G) i st t e ∙ written_by_all st post G (all st t l e) a clean
 
-  item_tells : Tells k store (numbered (numberBy plain G) i) words r.sum r.said
+  item_tells : Tells k store (numbered (number_by plain G) i) words r.sum r.said
   unfolding numbered
   item_tells = go h
     where
-      go : NamedTells k store plain n i room room' words r → Tells k store (numbered (numberBy plain G) i) words r.sum r.said
+      go : NamedTells k store plain n i room room' words r → Tells k store (numbered (number_by plain G) i) words r.sum r.said
       go (long l q b) = tellsLong l q
-      go (stops l t e q b) = tellsStop l t (numbered_stuck (numberBy plain G) i t e) q
+      go (stops l t e q b) = tellsStop l t (numbered_stuck (number_by plain G) i t e) q
       go (turns l st t e a q d j) =
           let w = item_written st t l e a in
-          tellsTurn l (renamed (numberBy plain G) st) t (numbered_got (numberBy plain G) i st t e) (q ∙ ap (λ (v : ℕ). Refused v) (sym w)) (λ z. d (sym w ∙ z))
+          tellsTurn l (renamed (number_by plain G) st) t (numbered_got (number_by plain G) i st t e) (q ∙ ap (λ (v : ℕ). Refused v) (sym w)) (λ z. d (sym w ∙ z))
       go (passes l st t e a w m j) =
           let g = all st t l e in
-          tellsPass l (renamed (numberBy plain G) st) t (numbered_got (numberBy plain G) i st t e) (item_written st t l e a ∙ w) (ranged_by_all st post G g a clean w)
+          tellsPass l (renamed (number_by plain G) st) t (numbered_got (number_by plain G) i st t e) (item_written st t l e a ∙ w) (ranged_by_all st post G g a clean w)
           (subst (λ (x : Statement). Means k store words r.sum x r.said) (renamed_by_all st post G g a (written_accepted r.bad st w).1) m)
 
 pub named_item : {k : ℕ} {store : Store} {plain : Bool} {n : ℕ} {i : NamedItem} {room room' : Bytes} {words words' : List ℕ} {r : StatementRead}
     → NamedItemIs k store plain n i room room' words words' r → (plain ≡ true → r.bad ≡ false) → (post G : List Name)
     → ((st : Named) (t : Bytes) → i.long ≡ false → i.reads ≡ got st t → AllNames plain (held n room) (names_in st) post G)
-    → ItemIs k store (numbered (numberBy plain G) i) words words' (record { said = r.said; sum = r.sum })
+    → ItemIs k store (numbered (number_by plain G) i) words words' (record { said = r.said; sum = r.sum })
 named_item h clean post G all = record { tells = item_tells h.tells clean post G all; kept = h.kept }
 
 -- ---- the index that a refusal reports does not hang on the numbers
@@ -167,10 +167,10 @@ module _ {k : ℕ} {store : Store} {plain : Bool} {n : ℕ} {i : NamedItem} {roo
       of : {w : ℕ} → r.said ≡ Refused w → Reports w → Reports v
       of {w} q g = subst Reports (let y : Refused w ≡ Refused v = sym q ∙ e in let z : w ≡ v = cc in z) g
 
-      by_written : (bad : Bool) (st : Named) (t : Bytes) → i.reads ≡ got st t → (numbersInRange (renamed unnumbered st) ≡ true → r.index ≡ index_of (renamed unnumbered st)) → Reports (written_by bad st)
+      by_written : (bad : Bool) (st : Named) (t : Bytes) → i.reads ≡ got st t → (numbers_in_range (renamed unnumbered st) ≡ true → r.index ≡ index_of (renamed unnumbered st)) → Reports (written_by bad st)
       by_written bad st t q j =
           ⊎_elim (λ y. read_index st t q (j y) (written_by bad st)) (λ y. subst Reports (sym (written_number bad st y)) (early_index NUMBER (omega arith)))
-          (split (numbersInRange (renamed unnumbered st)))
+          (split (numbers_in_range (renamed unnumbered st)))
 
       go : NamedTells k store plain n i room room' words r → Reports v
       go (long l q b) = of q (early_index LONGLINE (omega arith))

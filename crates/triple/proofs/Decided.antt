@@ -11,7 +11,7 @@ use Rattle.paper.specs.Rules.{Store}
 use Rattle.paper.specs.Published.{Name, Named, NamedItem}
 use Rattle.paper.specs.Named.{names_in, with_names}
 use Rattle.paper.proofs.Names.{never}
-use Rattle.names.specs.Names.{held, badBy, namesWith}
+use Rattle.names.specs.Names.{held, bad_by, names_with}
 use Rattle.steps.specs.declared.said.Said.{Said}
 use Rattle.steps.specs.declared.said.Said.TheVariants.{Refused}
 use Rattle.steps.proofs.Decided.{IsSet}
@@ -23,7 +23,7 @@ use Rattle.triple.proofs.Agreeing.{AllNames, written_accepted, named_item}
 module _ (plain : Bool) (n : ℕ) (i : NamedItem) (room : Bytes) where
   -- whether a statement has a bad name, and what is said of one that has
   abbrev bad_in : Named → Bool
-  bad_in st = any (badBy plain (namesWith plain (held n room) (names_in st))) (names_in st)
+  bad_in st = any (bad_by plain (names_with plain (held n room) (names_in st))) (names_in st)
 
   abbrev bad_read : Bool → Read Named → Bool
   bad_read true x = false

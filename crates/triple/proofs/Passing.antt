@@ -13,14 +13,14 @@ use Rattle.ground.specs.Lists.{any, every, total, gather}
 use Rattle.ground.proofs.Tests.{split, cond_no}
 use Rattle.limits.specs.Limits.{most_pool_terms, term_words, least_scratch, variables}
 use Rattle.paper.specs.Grammar.{Bytes, Line, stuck}
-use Rattle.paper.specs.Statement.{modulo, ring, fields, newIndex, forgets, is_ring}
+use Rattle.paper.specs.Statement.{modulo, ring, fields, new_index, forgets, is_ring}
 use Rattle.paper.specs.Rules as paper
 use Rattle.paper.specs.Rules.{start, after, inputs, entries, makes_seen, without, product_count, holds_goal}
 use Rattle.paper.specs.Answer.{run}
 use Rattle.paper.specs.Published.{pieces, NamedItem, read_by, proof_step, target_items}
 use Rattle.paper.specs.Named.{Texts, readable, with_names, numbering, numbered, named_items, published_items}
 use Rattle.paper.proofs.Ranges.{ring_some, ring_most}
-use Rattle.names.specs.Names.{slotBytes, held, Holding, numberBy}
+use Rattle.names.specs.Names.{slot_bytes, held, Holding, number_by}
 use Rattle.steps.specs.declared.state.State.{State}
 use Rattle.steps.specs.declared.state.Step.{Step}
 use Rattle.steps.specs.State.{state_of, Ready, AtStart}
@@ -51,7 +51,7 @@ abbrev in_ring : ℕ → paper.State → paper.State
 in_ring k s = record { phase = inputs; ring = modulo k; store = s.store; seen = s.seen; goal = s.goal; reached = s.reached; products = s.products }
 
 ring_after : (k : ℕ) → in_ring k start ≡ after start (ring (modulo k))
-unfolding start after entries makes_seen without product_count holds_goal forgets newIndex fields any total gather paper.shows_all
+unfolding start after entries makes_seen without product_count holds_goal forgets new_index fields any total gather paper.shows_all
 ring_after k = refl
 
 at_ring_ready : {capacity : ℕ} {s : State} {pool scratch : List ℕ} (k : ℕ) → is_ring (modulo k) ≡ true → Ready capacity s pool scratch → Ready capacity (at_ring k s) pool scratch
@@ -77,11 +77,11 @@ begun k s f {r} h =
     }
 
 -- no name is held
-pub holding_none : (room : Bytes) → variables * slotBytes ≤ length room → Holding 0 room
+pub holding_none : (room : Bytes) → variables * slot_bytes ≤ length room → Holding 0 room
 unfolding held
 holding_none room f = record { few = omega arith; fits = f; short = λ i h. absurd (not-suc-le-zero h); apart = λ i h. absurd (not-suc-le-zero h) }
 
-pub begun_able : {k : ℕ} (c : Course) → Begun k c → is_ring (modulo k) ≡ true → {capacity : ℕ} {room : Bytes} {pool scratch : List ℕ} → variables * slotBytes ≤ length room
+pub begun_able : {k : ℕ} (c : Course) → Begun k c → is_ring (modulo k) ≡ true → {capacity : ℕ} {room : Bytes} {pool scratch : List ℕ} → variables * slot_bytes ≤ length room
     → capacity * term_words ≤ length pool → capacity ≤ most_pool_terms → least_scratch ≤ length scratch → Able capacity c room pool scratch
 begun_able c b q {capacity} {room} {pool} {scratch} f w m l =
     let r = b.ready q capacity pool scratch w m l in
@@ -132,8 +132,8 @@ module _ {plain : Bool} {capacity k : ℕ} (t : Texts) {rest : List NamedItem} (
       let is = named_items t in
       let ms = with_names [] (names_from is) in
       record {
-        on = λ _. ap (λ (b : Bool). run capacity (after start (ring (modulo k))) 0 (map (numbered (numberBy b ms)) is)) (sym p)
-            ∙ ap₂ (λ (s : paper.State) (n : ℕ). run capacity s n (map (numbered (numberBy plain ms)) is)) (sym (h.state pa sa)) (sym h.lines);
+        on = λ _. ap (λ (b : Bool). run capacity (after start (ring (modulo k))) 0 (map (numbered (number_by b ms)) is)) (sym p)
+            ∙ ap₂ (λ (s : paper.State) (n : ℕ). run capacity s n (map (numbered (number_by plain ms)) is)) (sym (h.state pa sa)) (sym h.lines);
         off = λ n. absurd (n h.verdict);
         plainly = λ _ q. sym p ∙ q;
         places = λ _ _. ap (λ (n : ℕ). with_names (held n ra) (names_from is)) (sym h.names);

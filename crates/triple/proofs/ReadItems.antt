@@ -9,7 +9,7 @@ use Rattle.paper.specs.Published.{Name, Named, NamedItem, read_by, constraint, t
 use Rattle.paper.specs.Rules.{Store}
 use Rattle.paper.specs.Named.{names_in, readable, with_names, is_plain, numbering, numbered}
 use Rattle.paper.proofs.Names.{with_append}
-use Rattle.names.specs.Names.{held, numberBy, namesWith}
+use Rattle.names.specs.Names.{held, number_by, names_with}
 use Rattle.named.specs.Reads.{NamesAre}
 use Rattle.steps.specs.declared.said.Said.{Said}
 use Rattle.steps.specs.Items.{ItemIs}
@@ -81,9 +81,9 @@ pub record NamesToCome (plain : Bool) (ms : List Name) (is : List NamedItem) (G 
 pub to_come_first : (plain : Bool) (is : List NamedItem) → NamesToCome plain [] is (with_names [] (gather names_in (readable is)))
 to_come_first plain is = record { by_place = λ p. refl }
 
-pub numbering_by : (plain : Bool) (ns : List Name) → every is_plain ns ≡ plain → numbering ns ≡ numberBy plain (with_names [] ns)
+pub numbering_by : (plain : Bool) (ns : List Name) → every is_plain ns ≡ plain → numbering ns ≡ number_by plain (with_names [] ns)
 unfolding numbering
-numbering_by plain ns e = ap (λ (b : Bool). numberBy b (with_names [] ns)) e
+numbering_by plain ns e = ap (λ (b : Bool). number_by b (with_names [] ns)) e
 
 -- with those of a statement, those behind it come
 names_with_law : {plain : Bool} {ms G : List Name} {i : NamedItem} {is : List NamedItem} → NamesToCome plain ms (i ∷ is) G → (st : Named) (t : Bytes) → i.long ≡ false → i.reads ≡ got st t
@@ -97,7 +97,7 @@ names_with_law {ms = ms} {i = i} {is} h st t l e = record {
 names_on : {plain : Bool} {n : ℕ} {room room' : Bytes} {names : ℕ} {bad : Bool} {G : List Name} (is : List NamedItem) (st : Named)
     → AllNames plain (held n room) (names_in st) (gather names_in (readable is)) G → NamesAre plain n (names_in st) room room' names bad → bad ≡ false → NamesToCome plain (held names room') is G
 names_on {n = n} {room} is st h a b = record {
-  by_place = λ p. h.by_place p ∙ ap (λ (ms : List Name). with_names ms (gather names_in (readable is))) (sym (a.holds b ∙ ap (λ (q : Bool). namesWith q (held n room) (names_in st)) p));
+  by_place = λ p. h.by_place p ∙ ap (λ (ms : List Name). with_names ms (gather names_in (readable is))) (sym (a.holds b ∙ ap (λ (q : Bool). names_with q (held n room) (names_in st)) p));
 }
 
 -- ---- the next item, where G are the names that are held and all those to come
@@ -105,7 +105,7 @@ module _ {k : ℕ} {store : Store} {plain : Bool} {n : ℕ} {i : NamedItem} {is 
     (h : NamesToCome plain (held n room) (i ∷ is) G) where
   -- what was read of it is what it says
   pub next_said : {words words' : List ℕ} → (plain ≡ true → r.bad ≡ false) → NamedItemIs k store plain n i room room' words words' r
-      → ItemIs k store (numbered (numberBy plain G) i) words words' (record { said = r.said; sum = r.sum })
+      → ItemIs k store (numbered (number_by plain G) i) words words' (record { said = r.said; sum = r.sum })
   next_said c x = named_item x c (gather names_in (readable is)) G (names_with_law h)
 
   -- one that is stepped leaves names that are held, and all those to come

@@ -10,11 +10,11 @@ use Rattle.ground.specs.Lists.{any, every, gather}
 use Rattle.ground.proofs.Tests.{and_left}
 use Rattle.ground.proofs.Lists.{every_append}
 use Rattle.paper.specs.Grammar.{Bytes, got}
-use Rattle.paper.specs.Statement.{renamed, fields, numbersInRange, tooManyTerms}
+use Rattle.paper.specs.Statement.{renamed, fields, numbers_in_range, too_many_terms}
 use Rattle.paper.specs.Rules.{first, Store}
 use Rattle.paper.specs.Published.{Name, Named, NamedItem}
 use Rattle.paper.specs.Named.{names_in, is_plain, with_names, numbered}
-use Rattle.names.specs.Names.{held, numberBy, badBy, namesWith}
+use Rattle.names.specs.Names.{held, number_by, bad_by, names_with}
 use Rattle.named.specs.Reads.{NamesAre}
 use Rattle.steps.specs.declared.said.Said.{Said}
 use Rattle.steps.specs.declared.said.Said.TheVariants.{Refused}
@@ -36,18 +36,18 @@ module _ (i : NamedItem) (is : List NamedItem) (l : i.long ≡ false) (st : Name
   plain_first = ap (every is_plain) names_first ∙ every_append is_plain (names_in st) (names_from is)
 
 -- ---- names that are taken as plain
-not_plain : (ms ns : List Name) → any (badBy true ms) ns ≡ not (every is_plain ns)
+not_plain : (ms ns : List Name) → any (bad_by true ms) ns ≡ not (every is_plain ns)
 unfolding any every
 not_plain ms [] = refl
 not_plain ms (n ∷ ns) = go (is_plain n) (not_plain ms ns)
   where
-    go : (b : Bool) → any (badBy true ms) ns ≡ not (every is_plain ns) → (not b || any (badBy true ms) ns) ≡ not (b && every is_plain ns)
+    go : (b : Bool) → any (bad_by true ms) ns ≡ not (every is_plain ns) → (not b || any (bad_by true ms) ns) ≡ not (b && every is_plain ns)
     go true e = e
     go false e = refl
 
 module _ {n : ℕ} {ns : List Name} {room room' : Bytes} {names : ℕ} {bad : Bool} (a : NamesAre true n ns room room' names bad) where
   bad_not_plain : bad ≡ not (every is_plain ns)
-  bad_not_plain = a.some ∙ not_plain (namesWith true (held n room) ns) ns
+  bad_not_plain = a.some ∙ not_plain (names_with true (held n room) ns) ns
 
   pub bad_some : bad ≡ true → every is_plain ns ≡ false
   bad_some e = go (every is_plain ns) (sym bad_not_plain ∙ e)
@@ -66,7 +66,7 @@ module _ {n : ℕ} {ns : List Name} {room room' : Bytes} {names : ℕ} {bad : Bo
 -- ---- the verdict on what is written
 pub written_read : (bad : Bool) (st : Named) → (eqb (written_by bad st) LONGLINE || eqb (written_by bad st) FORM) ≡ false
 unfolding written_by first
-written_read bad st = go (not (numbersInRange (renamed unnumbered st))) (any tooManyTerms (fields (renamed unnumbered st))) bad
+written_read bad st = go (not (numbers_in_range (renamed unnumbered st))) (any too_many_terms (fields (renamed unnumbered st))) bad
   where
     go : (a b c : Bool) → (eqb (cond a NUMBER (cond b TERMS (cond c NAMES ACCEPTED))) LONGLINE || eqb (cond a NUMBER (cond b TERMS (cond c NAMES ACCEPTED))) FORM) ≡ false
     go true b c = refl
@@ -129,4 +129,4 @@ module _ {k : ℕ} {store : Store} {plain : Bool} {n : ℕ} {i : NamedItem} {roo
   own_item e h =
       let t = well_written x.tells (subst NoRefusal (sym e) h) in
       let ms : List Name = with_names (held n room) (names_in t.value) in
-      (numberBy plain ms, named_item x (λ _. t.good) [] ms (λ st s l g. record { by_place = λ _. own_names (held n room) t.value st (same_read (sym t.reads ∙ g)) }))
+      (number_by plain ms, named_item x (λ _. t.good) [] ms (λ st s l g. record { by_place = λ _. own_names (held n room) t.value st (same_read (sym t.reads ∙ g)) }))

@@ -16,7 +16,7 @@ use Rattle.paper.specs.Answer.{Answer, Item, run, report}
 use Rattle.paper.specs.Published.{Name, is_space, pieces, NamedItem, read_by}
 use Rattle.paper.specs.Named.{with_names, numbered}
 use Rattle.paper.proofs.Running.{run_stands, run_refused}
-use Rattle.names.specs.Names.{held, numberBy}
+use Rattle.names.specs.Names.{held, number_by}
 use Rattle.reader.specs.Search.{FirstOrEnd}
 use Rattle.table.specs.Table.{Packed, store_of}
 use Rattle.steps.specs.declared.state.State.{State}
@@ -95,15 +95,15 @@ module _ (c : Course) (pool : List ℕ) {plain : Bool} {i : NamedItem} {room roo
       to_come = record { by_place = u.places z }
 
       -- the item in the numbers that ms gives
-      head : ItemIs c.step.state.ring (store_of c.step.state.table pool) (numbered (numberBy plain ms) i) scratch scratch' (as_read line)
+      head : ItemIs c.step.state.ring (store_of c.step.state.table pool) (numbered (number_by plain ms) i) scratch scratch' (as_read line)
       head = next_said to_come (λ p. good_where_plain p is (u.plainly z p)) x
 
-      module _ (j : ItemJudged capacity (numbered (numberBy plain ms) i) c.step.state pool scratch r pool' scratch'') where
+      module _ (j : ItemJudged capacity (numbered (number_by plain ms) i) c.step.state pool scratch r pool' scratch'') where
         abbrev item : Item
-        item = numbered (numberBy plain ms) i
+        item = numbered (number_by plain ms) i
 
         abbrev behind : List Item
-        behind = map (numbered (numberBy plain ms)) is
+        behind = map (numbered (number_by plain ms)) is
 
         on_next : r.verdict ≡ 0 → a ≡ run capacity (state_of r.state pool' scratch'') r.state.lines behind
         on_next w =
@@ -122,7 +122,7 @@ module _ (c : Course) (pool : List ℕ) {plain : Bool} {i : NamedItem} {room roo
             ap (λ (y : State). report (state_of y p q) v (suc y.lines) k) (j.back w)
             ∙ sym (reports s f.packed v (suc s.lines) k p q) ∙ reports s f.packed v (suc s.lines) k pool scratch in
             u.on z ∙ run_refused capacity (state_of s pool scratch) s.lines item behind v k (j.refused w) ∙ sym b
-            ∙ ap (report (state_of r.state p q) v (suc r.state.lines)) (⊎_elim (λ h. stepped_index (numberBy plain ms) x.tells refl h v) (λ e. refused_index (numberBy plain ms) x.tells e.0) m.either)
+            ∙ ap (report (state_of r.state p q) v (suc r.state.lines)) (⊎_elim (λ h. stepped_index (number_by plain ms) x.tells refl h v) (λ e. refused_index (number_by plain ms) x.tells e.0) m.either)
 
         places_next : r.verdict ≡ 0 → plain ≡ false → ms ≡ with_names (held line.names room') (names_from is)
         places_next w q = (next_to_come to_come x.tells refl (unrefused m w)).by_place q
@@ -133,14 +133,14 @@ module _ (c : Course) (pool : List ℕ) {plain : Bool} {i : NamedItem} {room roo
     pub underway_next : {ms : List Name} {a : Answer} {is : List NamedItem} → Underway capacity plain ms a (i ∷ is) c room pool scratch → Able capacity c room pool scratch
         → ((f : Name → ℕ) → ItemIs c.step.state.ring (store_of c.step.state.table pool) (numbered f i) scratch scratch' (as_read line) → ItemJudged capacity (numbered f i) c.step.state pool scratch r pool' scratch'')
         → Underway capacity plain ms a is (behind_it line r) room' pool' scratch''
-    underway_next {ms} u f j = underway_item u f (j (numberBy plain ms) (head u f))
+    underway_next {ms} u f j = underway_item u f (j (number_by plain ms) (head u f))
 
 -- what is refused has no items to come
 pub underway_other : {capacity : ℕ} {plain : Bool} {ms : List Name} {a : Answer} {is js : List NamedItem} {c : Course} {room : Bytes} {pool scratch : List ℕ}
     → (c.step.verdict ≡ 0 → is ≡ js) → Underway capacity plain ms a is c room pool scratch → Underway capacity plain ms a js c room pool scratch
 underway_other {capacity} {plain} {ms} {a} {is} {js} {c} {room} {pool} {scratch} e u =
     record {
-      on = λ z. u.on z ∙ ap (λ (l : List NamedItem). run capacity (state_of c.step.state pool scratch) c.step.state.lines (map (numbered (numberBy plain ms)) l)) (e z);
+      on = λ z. u.on z ∙ ap (λ (l : List NamedItem). run capacity (state_of c.step.state pool scratch) c.step.state.lines (map (numbered (number_by plain ms)) l)) (e z);
       off = u.off;
       plainly = λ z p. sym (ap all_plain (e z)) ∙ u.plainly z p;
       places = λ z q. u.places z q ∙ ap (λ (l : List NamedItem). with_names (held c.names room) (names_from l)) (e z);

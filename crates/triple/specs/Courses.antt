@@ -9,7 +9,7 @@ use Rattle.paper.specs.Rules.{start, after}
 use Rattle.paper.specs.Answer.{Answer, run, report}
 use Rattle.paper.specs.Published.{Name, is_space, pieces, NamedItem}
 use Rattle.paper.specs.Named.{names_in, readable, is_plain, with_names, numbered}
-use Rattle.names.specs.Names.{held, Holding, numberBy}
+use Rattle.names.specs.Names.{held, Holding, number_by}
 use Rattle.table.specs.Table.{Packed}
 use Rattle.steps.specs.declared.said.Said.{Said}
 use Rattle.steps.specs.declared.said.Said.TheVariants.{Ring, Input, Goal, Lin, Del, Ext, Refused}
@@ -52,7 +52,7 @@ pub record Able (capacity : ℕ) (c : Course) (room : Bytes) (pool scratch : Lis
 
 -- the answer a is that of the items still to come, in the numbers that ms gives their names; or that of the refused statement
 pub record Underway (capacity : ℕ) (plain : Bool) (ms : List Name) (a : Answer) (is : List NamedItem) (c : Course) (room : Bytes) (pool scratch : List ℕ) : Type 0 where
-  pub on : c.step.verdict ≡ 0 → a ≡ run capacity (state_of c.step.state pool scratch) c.step.state.lines (map (numbered (numberBy plain ms)) is)
+  pub on : c.step.verdict ≡ 0 → a ≡ run capacity (state_of c.step.state pool scratch) c.step.state.lines (map (numbered (number_by plain ms)) is)
   pub off : (c.step.verdict ≡ 0 → ⊥) → (pool scratch : List ℕ)
       → a ≡ report (state_of c.step.state pool scratch) c.step.verdict (suc c.step.state.lines) (counted_index c.step.verdict c.index)
   pub plainly : c.step.verdict ≡ 0 → plain ≡ true → all_plain is ≡ true

@@ -2,7 +2,7 @@
 ghost use Rattle.std.specs.Prelude.{◌≡◌, [], ◌+◌, ◌≤◌, length};
 ghost use Rattle.limits.specs.Limits.{text_bytes};
 ghost use Rattle.paper.specs.Published.{pieces};
-ghost use Rattle.names.specs.Names.{hintCount};
+ghost use Rattle.names.specs.Names.{hint_count};
 ghost use Rattle.published.specs.Statements.{kind_behind, items_of};
 ghost use Rattle.triple.specs.Courses.{BeginsAt, Able, Judging};
 
@@ -53,7 +53,7 @@ pub(crate) fn judge_text(
     capacity: usize,
     c: Course,
 ) -> Course
-    requires { Able capacity c room.old pool.old scratch.old × (c.step.state.lines + length text.now ≤ text_bytes) × (hintCount ≤ length hints.old) }
+    requires { Able capacity c room.old pool.old scratch.old × (c.step.state.lines + length text.now ≤ text_bytes) × (hint_count ≤ length hints.old) }
     ensures { Judging capacity plain (items_of kind (pieces text.now)) c room.old pool.old scratch.old
         [] result room.new pool.new scratch.new (c.step.state.lines + length text.now) }
 {

@@ -4,7 +4,7 @@ ghost use Rattle.limits.specs.Limits.{text_bytes, variables, most_pool_terms, te
 ghost use Rattle.paper.specs.Statement.{modulo, is_ring};
 ghost use Rattle.limits.specs.Verdicts.{NUMBER};
 ghost use Rattle.paper.specs.Answer as paper;
-ghost use Rattle.names.specs.Names.{slotBytes, hintCount};
+ghost use Rattle.names.specs.Names.{slot_bytes, hint_count};
 ghost use Rattle.checker.specs.Checked.{answer_of};
 ghost use Rattle.triple.specs.Triple.{answer_in, AnsweredIfPlain, CheckedTexts};
 
@@ -45,7 +45,7 @@ fn judged_again(
     capacity: usize,
 ) -> Answer
     requires { (is_ring (modulo k) ≡ true) × (length constraints.now + length target.now + length proof.now ≤ text_bytes)
-        × (variables * slotBytes ≤ length room.old) × (hintCount ≤ length hints.old)
+        × (variables * slot_bytes ≤ length room.old) × (hint_count ≤ length hints.old)
         × (capacity * term_words ≤ length pool.old) × (capacity ≤ most_pool_terms) × (least_scratch ≤ length scratch.old) }
     ensures { AnsweredIfPlain capacity k (record { constraints = constraints.entry.now; target = target.now; proof = proof.now }) a → answer_of result ≡ answer_in capacity k (record { constraints = constraints.entry.now; target = target.now; proof = proof.now }) }
 {

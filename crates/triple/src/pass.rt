@@ -2,7 +2,7 @@
 ghost use Rattle.std.specs.Prelude.{◌≡◌, true, ◌+◌, ◌*◌, ◌≤◌, length};
 ghost use Rattle.limits.specs.Limits.{text_bytes, variables, most_pool_terms, term_words, least_scratch};
 ghost use Rattle.paper.specs.Statement.{modulo, is_ring};
-ghost use Rattle.names.specs.Names.{slotBytes, hintCount};
+ghost use Rattle.names.specs.Names.{slot_bytes, hint_count};
 ghost use Rattle.table.specs.Table.{Packed};
 ghost use Rattle.triple.specs.Courses.{counted_index, Begun};
 ghost use Rattle.triple.specs.Triple.{Concluded, PassIs};
@@ -77,7 +77,7 @@ pub(crate) fn pass(
     capacity: usize,
 ) -> Passage
     requires { (is_ring (modulo k) ≡ true) × (length constraints.now + length target.now + length proof.now ≤ text_bytes)
-        × (variables * slotBytes ≤ length room.old) × (hintCount ≤ length hints.old)
+        × (variables * slot_bytes ≤ length room.old) × (hint_count ≤ length hints.old)
         × (capacity * term_words ≤ length pool.old) × (capacity ≤ most_pool_terms) × (least_scratch ≤ length scratch.old) }
     ensures { PassIs plain capacity k (record { constraints = constraints.entry.now; target = target.now; proof = proof.now }) result }
 {

@@ -3,7 +3,7 @@ ghost use Rattle.std.specs.Prelude.{◌≡◌, cond, List, ◌++◌, ◌*◌, �
 ghost use Rattle.limits.specs.Limits.{text_bytes, variables, least_scratch};
 ghost use Rattle.paper.specs.Published.{pieces, NamedItem};
 ghost use Rattle.paper.specs.Named.{named_items};
-ghost use Rattle.names.specs.Names.{slotBytes, hintCount};
+ghost use Rattle.names.specs.Names.{slot_bytes, hint_count};
 ghost use Rattle.published.specs.Statements.{items_of};
 ghost use Rattle.triple.specs.Courses.{all_plain, unreadable};
 
@@ -44,7 +44,7 @@ fn plain_text(
     pool: &[u64],
     scratch: &mut [u64],
 ) -> Plainness
-    requires { (length text.now ≤ text_bytes) × (variables * slotBytes ≤ length room.old) × (hintCount ≤ length hints.old)
+    requires { (length text.now ≤ text_bytes) × (variables * slot_bytes ≤ length room.old) × (hint_count ≤ length hints.old)
         × (least_scratch ≤ length scratch.old) }
     ensures { (rest : List NamedItem) → all_plain (items_of kind (pieces text.now) ++ rest) ≡ cond result.open (all_plain rest) result.plain }
 {
@@ -96,7 +96,7 @@ pub(crate) fn every_plain(
     scratch: &mut [u64],
 ) -> bool
     requires { (length constraints.now ≤ text_bytes) × (length target.now ≤ text_bytes) × (length proof.now ≤ text_bytes)
-        × (variables * slotBytes ≤ length room.old) × (hintCount ≤ length hints.old) × (least_scratch ≤ length scratch.old) }
+        × (variables * slot_bytes ≤ length room.old) × (hint_count ≤ length hints.old) × (least_scratch ≤ length scratch.old) }
     ensures { result ≡ all_plain (named_items (record { constraints = constraints.entry.now; target = target.now; proof = proof.now })) }
 {
     let a = plain_text(CONSTRAINT, constraints, room, hints, pool, scratch);

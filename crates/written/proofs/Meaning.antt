@@ -14,7 +14,7 @@ use Rattle.algebra.specs.Polynomial.{sum_if, reduce}
 use Rattle.algebra.proofs.Values.{keep_same}
 use Rattle.algebra.proofs.Sums.{reduce_sums}
 use Rattle.words.proofs.Wrap.{same_cut, same_negative}
-use Rattle.paper.specs.Statement.{Written, isTerm, in_range, tooManyTerms, setOf, asTerm, reduced}
+use Rattle.paper.specs.Statement.{Written, is_term, in_range, too_many_terms, set_of, as_term, reduced}
 use Rattle.paper.proofs.Ranges.{term_in_range}
 use Rattle.written.specs.Worded.{signed_word, worded_term, worded, Holds}
 
@@ -24,19 +24,19 @@ module _ (k : ℕ) (h : k ≤ 64) where
   signed_same true m l = same_cut k h (same_mod (2 ^ 64 - m)) ⊳ same_negative k h m (omega arith)
   signed_same false m l = same_refl
 
-  sums : (p : Written) → in_range p ≡ true → (f : ℕ → Bool) → Same (2 ^ k) (sum_if f (worded p)) (sum_if f (map (asTerm k) p))
-  unfolding worded worded_term asTerm in_range every
+  sums : (p : Written) → in_range p ≡ true → (f : ℕ → Bool) → Same (2 ^ k) (sum_if f (worded p)) (sum_if f (map (as_term k) p))
+  unfolding worded worded_term as_term in_range every
   sums [] e f = same_refl
   sums (t ∷ p) e f =
       same_add
-      (keep_same (f (setOf t.variables)) (signed_same t.negative t.magnitude (term_in_range t (and_left (isTerm t) (every isTerm p) e)).most))
-      (sums p (and_right (isTerm t) (every isTerm p) e) f)
+      (keep_same (f (set_of t.variables)) (signed_same t.negative t.magnitude (term_in_range t (and_left (is_term t) (every is_term p) e)).most))
+      (sums p (and_right (is_term t) (every is_term p) e) f)
 
   pub worded_reduced : (p : Written) → in_range p ≡ true → reduce k (worded p) ≡ reduced k p
   unfolding reduced
-  worded_reduced p e = reduce_sums k (worded p) (map (asTerm k) p) (sums p e)
+  worded_reduced p e = reduce_sums k (worded p) (map (as_term k) p) (sums p e)
 
 -- a field in words has few enough terms
 pub holds_few : {p : Written} {n at : ℕ} {words : List ℕ} → Holds p n at words → n ≤ field_terms
-unfolding tooManyTerms
+unfolding too_many_terms
 holds_few {p = p} h = omega (arith, h.terms, ltb-false field_terms (length p) h.short)

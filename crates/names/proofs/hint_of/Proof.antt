@@ -3,12 +3,12 @@ use Prim.Native.Nat.{◌≤◌, ◌<◌, ◌-◌}
 use native.Mathlib.Omega.{arith}
 use lib.ListN.{length}
 use borrow.Author.Rules.{rules}
-use Rattle.names.specs.Names.{hintCount}
+use Rattle.names.specs.Names.{hint_count}
 use Rattle.names.proofs.hint_of.Statement.{statement}
 use Rattle.names.proofs.hint_of.Tie as tie
 
 abbrev invariant_loop : tie.invariant-loop
-invariant_loop s h₀ j₀ h j = (h < hintCount) × (j ≤ length s)
+invariant_loop s h₀ j₀ h j = (h < hint_count) × (j ≤ length s)
 
 abbrev decreases_loop : tie.decreases-loop
 decreases_loop s h₀ j₀ h j = length s - j

@@ -6,7 +6,7 @@ use native.Mathlib.Omega.{arith}
 use lib.ListN.{length, set}
 use lib.Seq.{paste, paste-zero}
 use borrow.Author.Rules.{rules}
-use Rattle.names.specs.Names.{slotBytes}
+use Rattle.names.specs.Names.{slot_bytes}
 use Rattle.names.proofs.Rooms.{put_more, put_all, put_same}
 use Rattle.names.proofs.put_name.Statement.{statement}
 use Rattle.names.proofs.put_name.Tie as tie
@@ -20,7 +20,7 @@ decreases_loop room₀ n s at j₀ room j = length s - j
 loop_holds : tie.Need-loop-init invariant_loop decreases_loop
 loop_holds c =
     let a = c.args in
-    (omega arith, paste-zero (set a.room.now (a.n * slotBytes) (length a.s.now)) (a.n * slotBytes + 1) a.s.now)
+    (omega arith, paste-zero (set a.room.now (a.n * slot_bytes) (length a.s.now)) (a.n * slot_bytes + 1) a.s.now)
 
 slice_write_room_2 : tie.Need-slice-write-room-2 invariant_loop decreases_loop
 slice_write_room_2 c =

@@ -7,7 +7,7 @@ use borrow.Author.Rules.{rules}
 use Rattle.words.proofs.Parts.{length_part}
 use Rattle.limits.specs.Limits.{term_words}
 use Rattle.terms.specs.Terms.{decode}
-use Rattle.scratch.proofs.Goals.{NoneIs, none-start, none_more, one-is, none_end, rest-equal, stored-words}
+use Rattle.scratch.proofs.Goals.{NoneIs, none_start, none_more, one_is, none_end, rest_equal, stored_words}
 use Rattle.scratch.proofs.is_stored.Statement.{statement}
 use Rattle.scratch.proofs.is_stored.Tie as tie
 
@@ -26,10 +26,10 @@ inside c =
     let b = c.before in
     let q = b.before.before.before in
     let a = q.args in
-    stored-words a.starts.now a.counts.now a.pool.now a.stored b.loop.j q.requires.0 c.loop-test.true
+    stored_words a.starts.now a.counts.now a.pool.now a.stored b.loop.j q.requires.0 c.loop-test.true
 
 loop_holds : tie.Need-loop-init invariant_loop decreases_loop
-loop_holds c = (omega arith, none-start)
+loop_holds c = (omega arith, none_start)
 
 cast_at : tie.Need-overflow-cast-at invariant_loop decreases_loop
 cast_at c = let e = inside c.before in search rules
@@ -66,7 +66,7 @@ returns c =
     let d = c.before in
     let b = d.before.before.before.before.before in
     let a = b.before.before.before.args in
-    one-is (d.same-run.ensures ∙ rest-equal _ _ _ a.pool.now) b.loop.invariant.1 a.stored (omega arith) c.if1.true
+    one_is (d.same-run.ensures ∙ rest_equal _ _ _ a.pool.now) b.loop.invariant.1 a.stored (omega arith) c.if1.true
 
 loop_again : tie.Need-loop-preserved invariant_loop decreases_loop
 loop_again c =
@@ -74,7 +74,7 @@ loop_again c =
     let b = d.before.before.before.before.before in
     let a = b.before.before.before.args in (
       omega arith,
-      none_more (d.same-run.ensures ∙ rest-equal _ _ _ a.pool.now) b.loop.invariant.1 c.if1.false,
+      none_more (d.same-run.ensures ∙ rest_equal _ _ _ a.pool.now) b.loop.invariant.1 c.if1.false,
     )
 
 returns_2 : tie.Need-returns-2 invariant_loop decreases_loop

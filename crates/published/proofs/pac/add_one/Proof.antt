@@ -2,7 +2,7 @@
 use mathlib.Core.Path.{refl}
 use native.Mathlib.Omega.{arith}
 use borrow.Author.Rules.{rules}
-use Rattle.paper.specs.Statement.{renamedField, renamedPair}
+use Rattle.paper.specs.Statement.{renamed_field, renamed_pair}
 use Rattle.paper.specs.Published.{one}
 use Rattle.scratch.specs.Scratch.{factor_at, goal_at}
 use Rattle.scratch.proofs.Keeping.{kept_trans, kept_factor}
@@ -21,11 +21,11 @@ add_read_requires c κs =
     )
 
 returns : tie.Need-returns
-unfolding renamedPair
+unfolding renamed_pair
 returns c =
     let f : tie.After-add-read = c.before.before in
     let p : tie.After-put-one = f.before.before.before.before in (
-      λ a g qs u. f.add_read.ensures.0 a refl (renamedField g one) (p.put_one.ensures.0 g) qs (summed_kept factor_at goal_at p.put_one.ensures.1 (omega arith) u),
+      λ a g qs u. f.add_read.ensures.0 a refl (renamed_field g one) (p.put_one.ensures.0 g) qs (summed_kept factor_at goal_at p.put_one.ensures.1 (omega arith) u),
       kept_trans (kept_factor _ _ p.put_one.ensures.1) f.add_read.ensures.1,
     )
 

@@ -6,7 +6,7 @@ use native.Mathlib.Omega.{arith}
 use borrow.Author.Tests.{ltb-true}
 use Rattle.limits.specs.Limits.{variables}
 use Rattle.paper.specs.Rules.{steps}
-use Rattle.paper.specs.Statement.{isVariable}
+use Rattle.paper.specs.Statement.{is_variable}
 use Rattle.steps.proofs.Admitting.{admitted_ring}
 use Rattle.steps.proofs.Stepping.{Long}
 use Rattle.steps.proofs.Stating.{ext_stores}
@@ -35,8 +35,8 @@ abbrev counted : tie.After-reaches → tie.After-put-count
 counted c = c.before.before.before.before.before.before
 
 -- ---- what is known at them
-below : (v : ℕ) → isVariable v ≡ true → v < variables
-unfolding isVariable
+below : (v : ℕ) → is_variable v ≡ true → v < variables
+unfolding is_variable
 below v e = ltb-true v variables e
 
 long : (c : tie.Start) → Long c.args.self.table
