@@ -1,5 +1,8 @@
 // The check program: a text from standard input is checked, and the six numbers of the answer are written, parted by tabs.
 // It is a library, since a program of the kit cannot set its exit status: its one function is linked as a program's `main`.
+
+#![tactic(auto)]
+
 ghost use Rattle.std.specs.Prelude.{◌<◌, length};
 ghost use Rattle.limits.specs.Limits.{host_text_bytes};
 ghost use Rattle.program.specs.Program.{Status};

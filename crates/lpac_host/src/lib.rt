@@ -1,4 +1,7 @@
 // The host calls: a program in C or Rust lends a text, or three published ones, and gets the verdict and the line as one number.
+
+#![tactic(auto)]
+
 ghost use Rattle.std.specs.Prelude.{◌≡◌};
 ghost use Rattle.limits.specs.Limits.{host_text_bytes};
 ghost use Rattle.checker.specs.Checked.{answer_of};

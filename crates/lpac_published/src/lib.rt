@@ -1,5 +1,8 @@
 // The program for published texts, `lpac_published K CONSTRAINTS TARGET PROOF`: three files are checked at K, and the six numbers of the
 // answer are written, parted by tabs. It is a library, as the other programs are: its one function is linked as a program's `main`.
+
+#![tactic(auto)]
+
 ghost use Rattle.std.specs.Prelude.{◌<◌, length};
 ghost use Rattle.io.specs.Counts.{IsPrefixLen};
 ghost use Rattle.limits.specs.Limits.{host_text_bytes};

@@ -1,6 +1,9 @@
 // The spelling program: lines `k<tab>field` from standard input, and for each `verdict<tab>spelling` on standard output; nothing
 // stands behind the tab where the field is refused. A line of another shape is FORM, and an input above 65,536 bytes has the one
 // answer LONGTEXT. It is a library, since a program of the kit cannot set its exit status: its one function is linked as a program's `main`.
+
+#![tactic(auto)]
+
 ghost use Rattle.std.specs.Prelude.{◌≡◌, ◌≤◌, ◌<◌, length};
 ghost use Rattle.limits.specs.Limits.{host_text_bytes};
 ghost use Rattle.program.specs.Program.{Status};

@@ -1,4 +1,7 @@
 // The checker of published texts: constraints, target and proof, with k beside them. The lent rooms are zeroed.
+
+#![tactic(auto)]
+
 ghost use Rattle.std.specs.Prelude.{◌≡◌, true, cond, ◌+◌, ◌*◌, ◌≤◌, ltb, length};
 ghost use Rattle.limits.specs.Limits.{text_bytes, variables, most_pool_terms, term_words, least_scratch};
 ghost use Rattle.paper.specs.Statement.{modulo, is_ring};
