@@ -47,7 +47,7 @@ pub extern "C" fn lpac_verdict(text: &[u8]) -> u64
 
 // The answer to three texts at k in room of the call's own. Longer texts than it takes are not read.
 pub fn published_answer(k: u64, constraints: &[u8], target: &[u8], proof: &[u8]) -> Answer
-    ensures { answer_of result ≡ published_host_answer k (record { constraints = constraints.entry.now; target = target.now; proof = proof.now }) }
+    ensures { answer_of result ≡ published_host_answer k (record { constraints = constraints.now; target = target.now; proof = proof.now }) }
 {
     if too_long(
         limits::HOST_TEXT_BYTES,
@@ -70,7 +70,7 @@ pub extern "C" fn lpac_published_verdict(
     target: &[u8],
     proof: &[u8],
 ) -> u64
-    ensures { PublishedHosted k (record { constraints = constraints.entry.now; target = target.now; proof = proof.now }) result }
+    ensures { PublishedHosted k (record { constraints = constraints.now; target = target.now; proof = proof.now }) result }
 {
     host_number(published_answer(k, constraints, target, proof))
 }
