@@ -13,10 +13,10 @@ returns-then-not-plain c =
 pub returns-then-p : goal.returns-then-p
 returns-then-p c =
     let a = c.args in
-    rw (not-false a.plain c.if-not-plain.false) (numbered_plain a.n a.s.now a.room.now c.requires.0 c.plain_number-p.result c.plain_number-p.ensures c.if-p.true)
+    rw c.if-not-plain.false (numbered_plain a.n a.s.now a.room.now c.requires.0 c.plain_number-p.result c.plain_number-p.ensures c.if-p.true)
 
 pub returns : goal.returns
 returns c =
     let a = c.args in
-    rw (c.bad.ensures, not-false a.plain c.if-not-plain.false)
+    rw (c.bad.ensures, c.if-not-plain.false)
     (numbered_bad a.n a.s.now a.room.now c.requires.0 true (bad_plain (held a.n a.room.now) a.s.now c.plain_number-p.result c.plain_number-p.ensures c.if-p.false))

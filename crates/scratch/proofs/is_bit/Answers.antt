@@ -11,7 +11,8 @@ is_reduced-requires c =
 
 pub returns : goal.returns
 returns c =
-    let a = c.args in (
-      square_equal a.k a.n a.scratch.now c.square.new.scratch c.square.ensures _ c.requires.3 c.is_reduced.ensures.equals,
-      within_trans c.square.ensures.within c.is_reduced.ensures.within,
-    )
+    let a = c.args in
+    record {
+      equals = square_equal a.k a.n a.scratch.now c.square.new.scratch c.square.ensures _ c.requires.3 c.is_reduced.ensures.equals;
+      within = within_trans c.square.ensures.within c.is_reduced.ensures.within;
+    }

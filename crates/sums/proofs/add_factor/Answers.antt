@@ -21,17 +21,11 @@ ringed c = c.requires.1 (omega (arith, (first c).inside))
 
 pub returns-in_default : goal.returns-in_default
 returns-in_default c =
-    let a = c.args in (
-      (λ w h qs s. factor_missing a.indices.now a.starts.now a.counts.now a.pool.now a.n a.index w s (found_nothing c.in_default.is c.find-found.ensures) c.refusal.ensures),
-      kept_refl,
-    )
+    let a = c.args in record { summed = λ w h qs s. factor_missing a.indices.now a.starts.now a.counts.now a.pool.now a.n a.index w s (found_nothing c.in_default.is c.find-found.ensures) c.refusal.ensures; kept = kept_refl }
 
 pub returns-then-sum-ne-ACCEPTED : goal.returns-then-sum-ne-ACCEPTED
 returns-then-sum-ne-ACCEPTED c =
-    let a = c.args in (
-      (λ w h qs s. factor_stopped a.indices.now a.starts.now a.counts.now a.pool.now a.n a.index w s (first (goal.at.returns-then-sum-ne-ACCEPTED c).After-struct_known-1) c.if-sum-ne-ACCEPTED.true),
-      kept_refl,
-    )
+    let a = c.args in record { summed = λ w h qs s. factor_stopped a.indices.now a.starts.now a.counts.now a.pool.now a.n a.index w s (first (goal.at.returns-then-sum-ne-ACCEPTED c).After-struct_known-1) c.if-sum-ne-ACCEPTED.true; kept = kept_refl }
 
 pub reduce_field-factor-requires : goal.reduce_field-factor-requires
 reduce_field-factor-requires c =
@@ -47,7 +41,5 @@ add_products-requires c =
 pub returns : goal.returns
 returns c =
     let a = c.args in
-    let f = (c.reduce_field-factor.ensures c.requires.3.0 c.requires.3.1).at in (
-      (λ w h qs s. factor_added a.indices.now a.starts.now a.counts.now a.pool.now a.n a.index w s (first (goal.at.returns c).After-struct_known-1) c.if-sum-ne-ACCEPTED.false (c.reduce_field-factor.ensures w h) c.add_products.ensures),
-      kept_trans (kept_factor _ _ f.within) c.add_products.ensures.kept,
-    )
+    let f = (c.reduce_field-factor.ensures c.requires.3.0 c.requires.3.1).at in
+    record { summed = λ w h qs s. factor_added a.indices.now a.starts.now a.counts.now a.pool.now a.n a.index w s (first (goal.at.returns c).After-struct_known-1) c.if-sum-ne-ACCEPTED.false (c.reduce_field-factor.ensures w h) c.add_products.ensures; kept = kept_trans (kept_factor _ _ f.within) c.add_products.ensures.kept }

@@ -47,7 +47,7 @@ less : (c : Else-q-eq-FORM)
     → let s = c.args.s.now in
     length s - c.read_pair-q.result.end < length s - c.loop-scratch.i
 less c =
-    omega (arith, (part_took c.read_pair-q.ensures.part c.if-q-eq-FORM.false).taken.onward, tab_inside c.args.s.now c.loop-scratch.i (turn_tab c.before.before.before.before.before.before))
+    omega (arith, (part_took c.read_pair-q.ensures.part c.if-q-eq-FORM.false).taken.onward, tab_inside c.args.s.now c.loop-scratch.i (sym c.tab_at-in-loop-scratch.ensures ∙ c.loop-scratch-test.true))
 
 pub add_factor-sum-requires : goal.add_factor-sum-requires
 add_factor-sum-requires c =

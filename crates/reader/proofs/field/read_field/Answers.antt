@@ -5,6 +5,7 @@ use borrow.Author.Rules.{rules}
 use Rattle.reader.proofs.Fields.{part_took}
 use Rattle.reader.proofs.Polynomials.{field_stuck, rest_stuck, rest_inside, field_zero, field_terms_law}
 use Rattle.reader.proofs.field.read_field.Goals as goal
+use Rattle.reader.proofs.field.read_field.Goals.{then-r-at+else-s-at-eq48, else-r-at}
 
 pub returns-then-t-eq-FORM : goal.returns-then-t-eq-FORM
 returns-then-t-eq-FORM c =
@@ -43,6 +44,6 @@ returns c =
     let a = c.args in
     field_terms_law a.greatest a.s.now a.at a.out.now c.read_term-t.result c.read_term-t.ensures c.if-t-eq-FORM.false
     c.put_term.new.out c.read_rest-r.new.out c.put_term.ensures c.read_rest-r.result c.read_rest-r.ensures c.if-r-eq-FORM.false
-    (⊎_elim (λ j q z. j.2.left z) (λ j q z. j.left q) c.if-r-at.branch)
+    (λ p q. elim c.if-r-at.branch [ then-r-at+else-s-at-eq48 w ↦ w.if-s-at-eq48.false q | else-r-at w ↦ w.if-r-at.false p ])
     c.first_verdict.result c.with_count.result c.first_byte.result
     c.first_verdict.ensures c.with_count.ensures c.first_byte.ensures

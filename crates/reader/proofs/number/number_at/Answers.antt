@@ -13,7 +13,7 @@ returns-in_default c =
     let a = c.args in
     rw c.outside.ensures
     (number_refused decimal a.low a.high a.s.now a.at (omega arith) c.decimal_at-d.result c.decimal_at-d.ensures
-    (λ v e q. ⊎_elim (λ p. absurd (let z : ⊥ = omega arith in z)) (λ p. absurd (let z : ⊥ = omega arith in z)) (rw q at c.in_default.in_default-own.keys2)))
+    (λ v e q. absurd (c.in_default.not-Value v e q)))
 
 pub returns-then-v-low : goal.returns-then-v-low
 returns-then-v-low c =

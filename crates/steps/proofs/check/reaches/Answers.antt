@@ -13,4 +13,4 @@ returns c =
     let a = c.args in
     let w = a.scratch.now in
     c.is_goal.ensures
-    ∙ sym (ap (λ (b : Bool). b || equal (decode a.n (drop stated_at w)) (decode a.«goal-terms» (drop goal_at w))) c.if-reached.false)
+    ∙ sym (ap (λ (b : Bool). b || equal (decode a.n (drop stated_at w)) (decode a.goal_terms (drop goal_at w))) c.if-reached.false)

@@ -11,7 +11,7 @@ pub loop-left-init : goal.loop-left-init
 loop-left-init c = back_start c.args.out.now c.args.at c.args.n c.number_length.result c.number_length.ensures c.requires
 
 pub overflow_sub-i-in-loop-left : goal.overflow_sub-i-in-loop-left
-overflow_sub-i-in-loop-left c = omega (arith, number_least 1 c.loop-left.false (omega arith))
+overflow_sub-i-in-loop-left c = omega (arith, number_least 1 c.loop-left.left (omega arith))
 
 pub loop-left-preserved : goal.loop-left-preserved
 loop-left-preserved c =

@@ -29,7 +29,7 @@ sizes c = sized (c.extend-made.ensures c.requires.2.0 c.requires.2.1)
 
 fits : (c : Else-a-ne-ACCEPTED-2) → Entering c.args.self c.extend-made.new.scratch c.extend-made.result
 fits c =
-    entering c.requires.0 (sizes c.before.before.before.before.before.before.before) c.append_to_pool-a.ensures c.if-a-ne-ACCEPTED-2.false
+    entering c.requires.0 (sized (c.extend-made.ensures c.requires.2.0 c.requires.2.1)) c.append_to_pool-a.ensures c.if-a-ne-ACCEPTED-2.false
 
 -- ---- the answers
 pub extend-made-requires : goal.extend-made-requires

@@ -25,9 +25,9 @@ sizes : (c : After-union-seen) → Sized c.args.scratch.now c.reduce_field-f.new
 sizes c =
     sized (input_candidate c.args.self.seen c.union-seen.result (c.reduce_field-f.ensures c.requires.1.0 c.requires.1.1) c.union-seen.ensures)
 
-fits : (c : Else-v-ne-ACCEPTED-2) → Entering c.args.self c.reduce_field-f.new.scratch (made c.before.before.before.before.before)
+fits : (c : Else-v-ne-ACCEPTED-2) → Entering c.args.self c.reduce_field-f.new.scratch (record { verdict = 0; terms = c.reduce_field-f.result.terms; products = 0; seen = c.union-seen.result })
 fits c =
-    entering c.requires.0 (sizes c.before.before.before.before.before) c.append_to_pool-v.ensures c.if-v-ne-ACCEPTED-2.false
+    entering c.requires.0 (sized (input_candidate c.args.self.seen c.union-seen.result (c.reduce_field-f.ensures c.requires.1.0 c.requires.1.1) c.union-seen.ensures)) c.append_to_pool-v.ensures c.if-v-ne-ACCEPTED-2.false
 
 -- ---- the answers
 pub reduce_field-f-requires : goal.reduce_field-f-requires

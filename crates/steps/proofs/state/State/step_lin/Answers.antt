@@ -20,7 +20,7 @@ sizes c = sized (c.check_sum-made.ensures c.requires.1.0 c.requires.1.1 _ c.requ
 
 fits : (c : Else-v-ne-ACCEPTED-2) → Entering c.args.self c.check_sum-made.new.scratch c.check_sum-made.result
 fits c =
-    entering c.requires.0 (sizes c.before.before.before.before.before.before.before) c.append_to_pool-v.ensures c.if-v-ne-ACCEPTED-2.false
+    entering c.requires.0 (sized (c.check_sum-made.ensures c.requires.1.0 c.requires.1.1 _ c.requires.2.0 c.requires.2.1)) c.append_to_pool-v.ensures c.if-v-ne-ACCEPTED-2.false
 
 -- ---- the answers
 pub check_sum-made-requires : goal.check_sum-made-requires
