@@ -1,4 +1,3 @@
 // No code: definitions and laws on tests, numbers and lists that the other crates cite.
 
 #![tactic(auto)]
-

@@ -2,7 +2,6 @@
 
 #![tactic(auto)]
 
-
 // ---- the width: a set of variables in 64-bit words, and a term, which is its set and then its coefficient
 pub const SET_WORDS: usize = 5;
 

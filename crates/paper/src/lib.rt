@@ -1,4 +1,3 @@
 // No code: the rules of the paper as definitions.
 
 #![tactic(auto)]
-

@@ -1,4 +1,3 @@
 // Written polynomials as words hold them: definitions and laws, and no code.
 
 #![tactic(auto)]
-

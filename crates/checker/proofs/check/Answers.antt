@@ -1,7 +1,6 @@
 -- `checker::check` meets its contract: too little room, too long a text, or a run and rooms made zero. No loop. Assumes nothing.
 use lib.ListN.{length}
 use Rattle.checker.proofs.Checking.{capacity_words, capacity_fits, checked_pool, checked_scratch, checked_text, checked_run}
-use borrow.Author.Rules.{rules}
 use Rattle.checker.proofs.check.Goals as goal
 
 pub returns-then-pool-lt-LEAST_POOL : goal.returns-then-pool-lt-LEAST_POOL

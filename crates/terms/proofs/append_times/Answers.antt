@@ -1,9 +1,8 @@
-use Prim.Native.Nat.{◌≤◌, ◌+◌, ◌-◌, ◌*◌}
+use Prim.Native.Nat.{◌+◌, ◌*◌}
 use native.Mathlib.Omega.{arith}
 use borrow.Author.Rules.{rules}
 use Rattle.limits.specs.Limits.{term_words}
-use Rattle.algebra.specs.Polynomial.{times}
-use Rattle.terms.specs.Terms.{term_of, decode, rounded, Appended}
+use Rattle.terms.specs.Terms.{term_of}
 use Rattle.terms.proofs.Products.{appended_start, appended_more, appended_end}
 use Rattle.terms.proofs.append_times.Goals as goal
 

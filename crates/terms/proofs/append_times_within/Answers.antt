@@ -1,10 +1,9 @@
-use Prim.Native.Nat.{◌≤◌, ◌+◌, ◌-◌, ◌*◌}
+use Prim.Native.Nat.{◌+◌, ◌*◌}
 use native.Mathlib.Omega.{arith}
 use lib.ListN.{drop}
 use borrow.Author.Rules.{rules}
 use Rattle.limits.specs.Limits.{term_words}
-use Rattle.algebra.specs.Polynomial.{times}
-use Rattle.terms.specs.Terms.{term_of, decode, rounded, Appended}
+use Rattle.terms.specs.Terms.{term_of}
 use Rattle.terms.proofs.Products.{appended_start, appended_more, appended_source, appended_end}
 use Rattle.terms.proofs.append_times_within.Goals as goal
 

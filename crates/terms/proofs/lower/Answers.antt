@@ -1,5 +1,4 @@
 -- `terms::lower` meets its contract: it is told by the order of the two sets. Assumes nothing.
-use borrow.Author.Rules.{rules}
 use Rattle.words.specs.declared.Order.TheVariants.{Less, Equal, Greater}
 use Rattle.terms.proofs.Comparing.{less_told}
 use Rattle.terms.proofs.lower.Goals as goal

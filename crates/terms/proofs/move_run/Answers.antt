@@ -1,9 +1,8 @@
-use Prim.Native.Nat.{◌≤◌, ◌-◌, ◌*◌}
+use Prim.Native.Nat.{◌*◌}
 use mathlib.Core.Path.{◌≡◌, refl}
 use native.Mathlib.Omega.{arith}
 use borrow.Author.Rules.{rules}
-use lib.ListN.{length}
-use lib.Seq.{paste, paste-zero}
+use lib.Seq.{paste-zero}
 use Rattle.limits.specs.Limits.{term_words}
 use Rattle.words.proofs.Parts.{paste_more}
 use Rattle.terms.proofs.move_run.Goals as goal

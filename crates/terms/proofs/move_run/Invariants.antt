@@ -1,12 +1,9 @@
 -- `terms::move_run` meets its contract. The loop's invariant: the first i words are copied; the measure is what is left of the run. Assumes nothing.
 use Prim.Native.Nat.{◌≤◌, ◌-◌, ◌*◌}
-use mathlib.Core.Path.{◌≡◌, refl}
-use native.Mathlib.Omega.{arith}
-use borrow.Author.Rules.{rules}
+use mathlib.Core.Path.{◌≡◌}
 use lib.ListN.{length}
-use lib.Seq.{paste, paste-zero}
+use lib.Seq.{paste}
 use Rattle.limits.specs.Limits.{term_words}
-use Rattle.words.proofs.Parts.{paste_more}
 use Rattle.terms.proofs.move_run.Given as goal
 
 abbrev pub invariant-loop-i : goal.invariant-loop-i

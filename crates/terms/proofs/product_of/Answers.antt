@@ -1,5 +1,4 @@
 -- `terms::product_of` meets its contract: the union of the sets, and the product of the coefficients modulo 2 ^ 64. Assumes nothing.
-use borrow.Author.Rules.{rules}
 use Rattle.terms.proofs.Products.{product_made}
 use Rattle.terms.proofs.product_of.Goals as goal
 

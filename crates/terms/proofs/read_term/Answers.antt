@@ -1,9 +1,7 @@
-use Prim.Native.Nat.{◌≤◌, ◌-◌}
 use mathlib.Core.Path.{◌≡◌, refl, ◌∙◌}
 use native.Mathlib.Omega.{arith}
-use borrow.Author.Rules.{rules}
-use lib.ListN.{length, drop, replicate, length-set, length-drop}
-use lib.Seq.{paste, get_or-drop}
+use lib.ListN.{drop, replicate, length-set, length-drop}
+use lib.Seq.{get_or-drop}
 use Rattle.limits.specs.Limits.{term_words}
 use Rattle.words.proofs.Parts.{front_more, front_all}
 use Rattle.terms.proofs.read_term.Goals as goal

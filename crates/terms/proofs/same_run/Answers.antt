@@ -1,11 +1,5 @@
-use Prim.Native.Nat.{◌≤◌, ◌-◌}
-use mathlib.Core.Path.{◌≡◌, refl}
+use mathlib.Core.Path.{refl}
 use native.Mathlib.Omega.{arith}
-use lib.ListN.{drop}
-use borrow.Author.Rules.{rules}
-use borrow.Author.Tests.{not-true, not-false}
-use Rattle.algebra.specs.Polynomial.{equal}
-use Rattle.terms.specs.Terms.{decode}
 use Rattle.terms.proofs.Runs.{run_longer, run_apart, run_more, run_end}
 use Rattle.terms.proofs.same_run.Goals as goal
 

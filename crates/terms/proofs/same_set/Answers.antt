@@ -1,5 +1,4 @@
 -- `terms::same_set` meets its contract: it is told by the order of the two sets. Assumes nothing.
-use borrow.Author.Rules.{rules}
 use Rattle.words.specs.declared.Order.TheVariants.{Less, Equal, Greater}
 use Rattle.terms.proofs.Comparing.{equal_told}
 use Rattle.terms.proofs.same_set.Goals as goal

@@ -1,6 +1,4 @@
 -- `terms::same_term` meets its contract: the sets are compared, then the coefficients. Assumes nothing.
-use borrow.Author.Rules.{rules}
-use borrow.Author.Tests.{not-true, not-false}
 use Rattle.terms.proofs.Runs.{term_apart, term_alike}
 use Rattle.terms.proofs.same_term.Goals as goal
 

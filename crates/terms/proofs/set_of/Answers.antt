@@ -1,10 +1,8 @@
-use Prim.Native.Nat.{◌≤◌, ◌-◌}
 use mathlib.Core.Path.{◌≡◌, refl, ap, ◌∙◌}
 use native.Mathlib.Omega.{arith}
 use borrow.Author.Rules.{rules}
-use lib.ListN.{length, replicate, length-set}
-use lib.Seq.{paste}
-use Rattle.limits.specs.Limits.{set_words, term_words}
+use lib.ListN.{replicate, length-set}
+use Rattle.limits.specs.Limits.{set_words}
 use Rattle.words.specs.Words.{number_of}
 use Rattle.words.proofs.Parts.{front_more, front_all}
 use Rattle.terms.specs.Terms.{term_of}

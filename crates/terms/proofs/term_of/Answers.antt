@@ -1,9 +1,7 @@
-use Prim.Native.Nat.{◌≤◌, ◌-◌}
 use mathlib.Core.Path.{◌≡◌, refl, ap, ◌∙◌}
 use native.Mathlib.Omega.{arith}
 use borrow.Author.Rules.{rules}
-use lib.ListN.{length, replicate, length-set}
-use lib.Seq.{paste}
+use lib.ListN.{replicate, length-set}
 use Rattle.limits.specs.Limits.{set_words, term_words}
 use Rattle.words.proofs.Parts.{front_more}
 use Rattle.terms.specs.Terms.{term_of}

@@ -1,14 +1,9 @@
 -- `terms::term_of` meets its contract. The loop's invariant: the first i words are the set's; the measure is what is left of a set. Assumes nothing.
 use Prim.Native.Nat.{◌≤◌, ◌-◌}
-use mathlib.Core.Path.{◌≡◌, refl, ap, ◌∙◌}
-use native.Mathlib.Omega.{arith}
-use borrow.Author.Rules.{rules}
-use lib.ListN.{length, replicate, length-set}
+use mathlib.Core.Path.{◌≡◌}
+use lib.ListN.{length}
 use lib.Seq.{paste}
 use Rattle.limits.specs.Limits.{set_words, term_words}
-use Rattle.words.proofs.Parts.{front_more}
-use Rattle.terms.specs.Terms.{term_of}
-use Rattle.terms.proofs.Decode.{term_made}
 use Rattle.terms.proofs.term_of.Given as goal
 
 abbrev pub invariant-loop-i : goal.invariant-loop-i

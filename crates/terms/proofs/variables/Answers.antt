@@ -1,7 +1,6 @@
-use Prim.Native.Nat.{ℕ, ◌≤◌, ◌-◌}
+use Prim.Native.Nat.{ℕ}
 use mathlib.Core.Path.{◌≡◌, subst}
 use native.Mathlib.Omega.{arith}
-use borrow.Author.Rules.{rules}
 use Rattle.algebra.specs.Polynomial.{vars}
 use Rattle.words.specs.Words.{number_of}
 use Rattle.terms.specs.Terms.{decode}

@@ -1,12 +1,9 @@
 -- `terms::variables` meets its contract. The loop's invariant: the set has the variables of the i terms passed; the measure is how many are left. Assumes nothing.
-use Prim.Native.Nat.{ℕ, ◌≤◌, ◌-◌}
-use mathlib.Core.Path.{◌≡◌, subst}
-use native.Mathlib.Omega.{arith}
-use borrow.Author.Rules.{rules}
+use Prim.Native.Nat.{◌≤◌, ◌-◌}
+use mathlib.Core.Path.{◌≡◌}
 use Rattle.algebra.specs.Polynomial.{vars}
 use Rattle.words.specs.Words.{number_of}
 use Rattle.terms.specs.Terms.{decode}
-use Rattle.terms.proofs.Runs.{variables_start, variables_more}
 use Rattle.terms.proofs.variables.Given as goal
 
 abbrev pub invariant-loop-i : goal.invariant-loop-i

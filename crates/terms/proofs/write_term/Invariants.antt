@@ -1,12 +1,9 @@
 -- `terms::write_term` meets its contract. The loop's invariant: the first i words are written; the measure is what is left of a term. Assumes nothing.
 use Prim.Native.Nat.{◌≤◌, ◌-◌}
-use mathlib.Core.Path.{◌≡◌, refl}
-use native.Mathlib.Omega.{arith}
-use borrow.Author.Rules.{rules}
+use mathlib.Core.Path.{◌≡◌}
 use lib.ListN.{length}
-use lib.Seq.{paste, paste-zero}
+use lib.Seq.{paste}
 use Rattle.limits.specs.Limits.{term_words}
-use Rattle.words.proofs.Parts.{paste_more}
 use Rattle.terms.proofs.write_term.Given as goal
 
 abbrev pub invariant-loop-i : goal.invariant-loop-i

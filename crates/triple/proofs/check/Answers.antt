@@ -1,7 +1,6 @@
 -- `triple::check` meets its contract: too little room, texts that are too long, or their answer and rooms made zero. No loop. Assumes nothing.
 use mathlib.Core.Path.{sym, ◌∙◌}
 use lib.ListN.{length}
-use borrow.Author.Rules.{rules}
 use Rattle.checker.proofs.Checking.{capacity_words, capacity_fits}
 use Rattle.triple.proofs.Checking.{within_bytes, texts_pool, texts_scratch, texts_long, texts_judged}
 use Rattle.triple.proofs.check.Goals as goal

@@ -1,6 +1,5 @@
 -- `triple::in_ring` meets its contract: k is too small, too great, or a ring's. No loop. Assumes nothing.
 use mathlib.Core.Path.{sym, ◌∙◌}
-use borrow.Author.Rules.{rules}
 use Rattle.paper.specs.Statement.{modulo, is_ring}
 use Rattle.ground.proofs.Tests.{cond_yes, cond_no}
 use Rattle.reader.proofs.Numbers.{ring_low, ring_high, ring_inside}

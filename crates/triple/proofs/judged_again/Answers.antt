@@ -1,7 +1,6 @@
 -- `triple::judged_again` meets its contract: the given answer where every name is plain, else that of a pass by place. No loop. Assumes nothing.
 use mathlib.Core.Path.{sym, ◌∙◌}
 use native.Mathlib.Omega.{arith}
-use borrow.Author.Rules.{rules}
 use Rattle.triple.proofs.judged_again.Goals as goal
 
 pub returns-then-every_plain : goal.returns-then-every_plain

@@ -1,7 +1,5 @@
-use Rattle.std.proofs.Common.{◌≡◌, ◌-◌, ◌≤◌, take, ◌∙◌, arith, rules}
-use lib.Count.{ones}
-use Rattle.limits.specs.Limits.{set_words, variables}
-use Rattle.words.specs.Words.{number_of}
+use Rattle.std.proofs.Common.{◌∙◌, arith, rules}
+use Rattle.limits.specs.Limits.{variables}
 use Rattle.words.proofs.Laws.{Words}
 use Rattle.words.proofs.WordByWord.{count_start, count_more, count_word, count_le, count_end}
 use Rattle.words.proofs.count.Goals as goal

@@ -1,11 +1,9 @@
 -- `words::count` meets its contract. The loop's invariant: n is how many variables the lowest i words have.
 -- The measure is the number of words left. Assumes nothing.
-use Rattle.std.proofs.Common.{◌≡◌, ◌-◌, ◌≤◌, take, ◌∙◌, arith, rules}
+use Rattle.std.proofs.Common.{◌≡◌, ◌-◌, ◌≤◌, take}
 use lib.Count.{ones}
-use Rattle.limits.specs.Limits.{set_words, variables}
+use Rattle.limits.specs.Limits.{set_words}
 use Rattle.words.specs.Words.{number_of}
-use Rattle.words.proofs.Laws.{Words}
-use Rattle.words.proofs.WordByWord.{count_start, count_more, count_word, count_le, count_end}
 use Rattle.words.proofs.count.Given as goal
 
 abbrev pub invariant-loop-i : goal.invariant-loop-i

@@ -1,6 +1,6 @@
 -- `words::times` meets its contract: the product by halves, but for what weighs 2 ^ 64. No loop.
 -- Assumes nothing.
-use Rattle.std.proofs.Common.{◌∙◌, arith, rules}
+use Rattle.std.proofs.Common.{◌∙◌, arith}
 use lib.Bits.{mask_lt}
 use Rattle.words.proofs.Wrap.{halves_fit, halves}
 use Rattle.words.proofs.times.Goals as goal

@@ -1,6 +1,4 @@
-use Rattle.std.proofs.Common.{◌≡◌, ◌-◌, ◌≤◌, length, take, arith, rules}
-use lib.Bits.{bit_or}
-use Rattle.limits.specs.Limits.{set_words}
+use Rattle.std.proofs.Common.{arith, rules}
 use Rattle.words.specs.Words.{number_of}
 use Rattle.words.proofs.Laws.{Words}
 use Rattle.words.proofs.WordByWord.{union_start, union_words, union_more, union_end}

@@ -1,8 +1,6 @@
 -- `words::zero` meets its contract. The loop's invariant: the first i words are 0, and the others as they were.
 -- The measure is the count of words left. Assumes nothing.
-use Rattle.std.proofs.Common.{◌≡◌, ◌-◌, ◌≤◌, ◌++◌, length, drop, replicate, append-nil, arith, rules}
-use lib.Seq.{drop-length}
-use borrow.Author.Fill.{fill_more}
+use Rattle.std.proofs.Common.{◌≡◌, ◌-◌, ◌≤◌, ◌++◌, length, drop, replicate}
 use Rattle.words.proofs.zero.Given as goal
 
 abbrev pub invariant-loop-i : goal.invariant-loop-i

@@ -1,7 +1,6 @@
 -- `checker::answer::ending` meets its contract: by the phase, and whether the goal was reached. No loop. Assumes nothing.
 use Rattle.steps.specs.State.{state_of}
 use Rattle.checker.proofs.Running.{ends_without, ends_short, ends_well}
-use borrow.Author.Rules.{rules}
 use Rattle.checker.proofs.answer.ending.Goals as goal
 
 pub returns-then-state-ne-STEPS : goal.returns-then-state-ne-STEPS

@@ -2,7 +2,6 @@ use mathlib.Core.Path.{◌≡◌, refl, sym, ◌∙◌}
 use Prim.Native.Nat.{ℕ, ◌+◌, ◌-◌, ◌<◌}
 use native.Mathlib.Omega.{arith}
 use lib.ListN.{length}
-use borrow.Author.Rules.{rules}
 use mathlib.Core.List.{List}
 use Rattle.paper.specs.Answer.{item_of}
 use Rattle.steps.specs.declared.state.Step.{Step}
@@ -14,33 +13,33 @@ use Rattle.steps.proofs.Asking.{ask_ring, ask_input, ask_goal, ask_lin, ask_ext}
 use Rattle.steps.proofs.Judging.{judged_ring, judged_input, judged_goal, judged_lin, judged_del, judged_ext, judged_refused}
 use Rattle.checker.proofs.Running.{Going, going_start, onward_room, going_more, goes, going_asks, going_end}
 use Rattle.checker.proofs.run.run.Goals as goal
-use Rattle.checker.proofs.run.run.Goals.{After-line_end-e, In-loop-from}
+use Rattle.checker.proofs.run.run.Goals.{After-line_end-e}
 
 pub loop-from-init : goal.loop-from-init
 loop-from-init c = (going_start c.new.ensures c.with_verdict-r.ensures c.requires.1 c.requires.2 c.requires.3, refl, refl)
 
 -- no line was refused, and one is left
-going : (c : In-loop-from) → (c.loop-from.r.verdict ≡ 0) × (c.loop-from.at < length c.args.text.now)
-going c = goes c.loop-from.r.verdict c.loop-from.at c.args.text.now (sym c.goes_on.ensures ∙ c.loop-from-test.true)
+going : (d : After-line_end-e) → (d.loop-from.r.verdict ≡ 0) × (d.loop-from.at < length d.args.text.now)
+going d = goes d.loop-from.r.verdict d.loop-from.at d.args.text.now (sym d.goes_on.ensures ∙ d.loop-from-test.true)
 
 room : (d : After-line_end-e) → Room d.args.capacity d.loop-from.r.state d.loop-from.pool d.loop-from.scratch
-room d = let g = going d.before in onward_room (d.loop-from.invariant.0.on g.0) g.1 d.requires.0
+room d = let g = going d in onward_room (d.loop-from.invariant.0.on g.0) g.1 d.requires.0
 
 -- what is left is less, and a judged line leads on
 less : (d : After-line_end-e) → length d.args.text.now + 1 - (d.line_end-e.result + 1) < length d.args.text.now + 1 - d.loop-from.at
-less d = let g = (going d.before).1 in omega arith
+less d = let g = (going d).1 in omega arith
 
 more : (d : After-line_end-e) {r : Step} {pool' scratch' : List ℕ}
-    → ItemJudged (start (begins d)).args.capacity (item_of (line_at (start (begins d)).args.text.now (begins d).loop.at d.line-end.result)) (begins d).loop.r.state (begins d).loop.pool (begins d).loop.scratch r pool' scratch'
-    → Going (start (begins d)).args.capacity (start (begins d)).args.text.now r (begins d).loop.at (d.line-end.result + 1) pool' scratch'
-    × (length pool' ≡ length (start (begins d)).args.pool.now) × (length scratch' ≡ length (start (begins d)).args.scratch.now)
+    → ItemJudged d.args.capacity (item_of (line_at d.args.text.now d.loop-from.at d.line_end-e.result)) d.loop-from.r.state d.loop-from.pool d.loop-from.scratch r pool' scratch'
+    → Going d.args.capacity d.args.text.now r d.loop-from.at (d.line_end-e.result + 1) pool' scratch'
+    × (length pool' ≡ length d.args.pool.now) × (length scratch' ≡ length d.args.scratch.now)
 more d j =
-    let l = (begins d).loop.invariant in
-    let g = going d.before in
-    (going_more (l.0.on g.0) g.1 (start (begins d)).pre.0 d.line-end.ensures j, j.pool-length ∙ l.1, j.scratch-length ∙ l.2)
+    let l = d.loop-from.invariant in
+    let g = going d in
+    (going_more (l.0.on g.0) g.1 d.requires.0 d.line_end-e.ensures j, j.pool_length ∙ l.1, j.scratch_length ∙ l.2)
 
 pub line_end-e-requires : goal.line_end-e-requires
-line_end-e-requires c = let g = (going (goal.at.line_end-e-requires c).In-loop-from).1 in omega arith
+line_end-e-requires c = let g = (goes c.loop-from.r.verdict c.loop-from.at c.args.text.now (sym c.goes_on.ensures ∙ c.loop-from-test.true)).1 in omega arith
 
 -- that a line's end is not before its start serves twice: for its length, and as the start of its part
 pub slice_bounds-read_line-count : goal.slice_bounds-read_line-count
@@ -65,7 +64,7 @@ loop-from-smaller-in-Ring c = less (goal.at.loop-from-smaller-in-Ring c).After-l
 
 pub loop-from-preserved-in-Ring : goal.loop-from-preserved-in-Ring
 loop-from-preserved-in-Ring c =
-    more c.before.before.before.before.before.before.before.before.before.before.before.before.before (judged_ring c.read_line-line.ensures c.in-Ring.is (room (goal.at.loop-from-preserved-in-Ring c).After-line_end-e) c.step_ring-r.ensures)
+    more (goal.at.loop-from-preserved-in-Ring c).After-line_end-e (judged_ring c.read_line-line.ensures c.in-Ring.is (room (goal.at.loop-from-preserved-in-Ring c).After-line_end-e) c.step_ring-r.ensures)
 
 pub step_input-r-requires : goal.step_input-r-requires
 step_input-r-requires c =
@@ -76,7 +75,7 @@ loop-from-smaller-in-Input c = less (goal.at.loop-from-smaller-in-Input c).After
 
 pub loop-from-preserved-in-Input : goal.loop-from-preserved-in-Input
 loop-from-preserved-in-Input c =
-    more c.before.before.before.before.before.before.before.before.before.before.before.before.before.before.before.before.before.before.before (judged_input c.read_line-line.ensures c.in-Input.is c.step_input-r.ensures)
+    more (goal.at.loop-from-preserved-in-Input c).After-line_end-e (judged_input c.read_line-line.ensures c.in-Input.is c.step_input-r.ensures)
 
 pub step_goal-r-requires : goal.step_goal-r-requires
 step_goal-r-requires c =
@@ -87,7 +86,7 @@ loop-from-smaller-in-Goal c = less (goal.at.loop-from-smaller-in-Goal c).After-l
 
 pub loop-from-preserved-in-Goal : goal.loop-from-preserved-in-Goal
 loop-from-preserved-in-Goal c =
-    more c.before.before.before.before.before.before.before.before.before.before.before.before.before.before.before.before (judged_goal c.read_line-line.ensures c.in-Goal.is (room (goal.at.loop-from-preserved-in-Goal c).After-line_end-e) c.step_goal-r.ensures)
+    more (goal.at.loop-from-preserved-in-Goal c).After-line_end-e (judged_goal c.read_line-line.ensures c.in-Goal.is (room (goal.at.loop-from-preserved-in-Goal c).After-line_end-e) c.step_goal-r.ensures)
 
 pub step_lin-r-requires : goal.step_lin-r-requires
 step_lin-r-requires c =
@@ -98,7 +97,7 @@ loop-from-smaller-in-Lin c = less (goal.at.loop-from-smaller-in-Lin c).After-lin
 
 pub loop-from-preserved-in-Lin : goal.loop-from-preserved-in-Lin
 loop-from-preserved-in-Lin c =
-    more c.before.before.before.before.before.before.before.before.before.before.before.before.before.before.before.before.before.before.before.before (judged_lin c.read_line-line.ensures c.in-Lin.is c.step_lin-r.ensures)
+    more (goal.at.loop-from-preserved-in-Lin c).After-line_end-e (judged_lin c.read_line-line.ensures c.in-Lin.is c.step_lin-r.ensures)
 
 pub step_del-r-requires : goal.step_del-r-requires
 step_del-r-requires c =
@@ -109,7 +108,7 @@ loop-from-smaller-in-Del c = less (goal.at.loop-from-smaller-in-Del c).After-lin
 
 pub loop-from-preserved-in-Del : goal.loop-from-preserved-in-Del
 loop-from-preserved-in-Del c =
-    more c.before.before.before.before.before.before.before.before.before.before.before.before.before.before.before.before (judged_del c.read_line-line.ensures c.in-Del.is (room (goal.at.loop-from-preserved-in-Del c).After-line_end-e) c.step_del-r.ensures)
+    more (goal.at.loop-from-preserved-in-Del c).After-line_end-e (judged_del c.read_line-line.ensures c.in-Del.is (room (goal.at.loop-from-preserved-in-Del c).After-line_end-e) c.step_del-r.ensures)
 
 pub step_ext-r-requires : goal.step_ext-r-requires
 step_ext-r-requires c =
@@ -120,14 +119,14 @@ loop-from-smaller-in-Ext c = less (goal.at.loop-from-smaller-in-Ext c).After-lin
 
 pub loop-from-preserved-in-Ext : goal.loop-from-preserved-in-Ext
 loop-from-preserved-in-Ext c =
-    more c.before.before.before.before.before.before.before.before.before.before.before.before.before.before.before.before.before.before.before (judged_ext c.read_line-line.ensures c.in-Ext.is c.step_ext-r.ensures)
+    more (goal.at.loop-from-preserved-in-Ext c).After-line_end-e (judged_ext c.read_line-line.ensures c.in-Ext.is c.step_ext-r.ensures)
 
 pub loop-from-smaller : goal.loop-from-smaller
 loop-from-smaller c = less (goal.at.loop-from-smaller c).After-line_end-e
 
 pub loop-from-preserved : goal.loop-from-preserved
 loop-from-preserved c =
-    more c.before.before.before.before.before.before.before.before.before.before.before (judged_refused c.read_line-line.ensures c.in-Refused.is)
+    more (goal.at.loop-from-preserved c).After-line_end-e (judged_refused c.read_line-line.ensures c.in-Refused.is)
 
 -- ---- behind the last line
 pub conclude-requires : goal.conclude-requires

@@ -1,5 +1,4 @@
 -- `named::monomial::behind_constant` meets its contract: a constant, and the names behind it. No loop. Assumes nothing.
-use borrow.Author.Rules.{rules}
 use Rattle.named.proofs.Factors.{stopped, went_on, no_form}
 use Rattle.named.proofs.Monomials.{monomial_stops, constant_stops, constant_took}
 use Rattle.named.proofs.monomial.behind_constant.Goals as goal

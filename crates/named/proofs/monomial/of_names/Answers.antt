@@ -1,6 +1,5 @@
 -- `named::monomial::of_names` meets its contract: a name, and the names behind it. No loop. Assumes nothing.
 use native.Mathlib.Omega.{arith}
-use borrow.Author.Rules.{rules}
 use Rattle.named.specs.Reads.{NameAt}
 use Rattle.named.proofs.Factors.{stopped, went_on, no_form}
 use Rattle.named.proofs.Monomials.{monomial_stops, name_stops, names_stop, names_took}
@@ -39,4 +38,4 @@ pub read_name-v-requires : goal.read_name-v-requires
 read_name-v-requires c = (c.requires.0, c.requires.1, c.requires.2)
 
 pub with-one-requires : goal.with-one-requires
-with-one-requires c = (first (goal.at.with-one-requires c).Else-v-eq-FORM).ranges
+with-one-requires c = (first (goal.at.with-one-requires c).Else-v-eq-FORM).fits

@@ -1,6 +1,5 @@
 -- `named::monomial::read_monomial` meets its contract, by the first byte. No loop. Assumes nothing.
 use mathlib.Core.Path.{sym, ◌∙◌}
-use borrow.Author.Rules.{rules}
 use Rattle.named.proofs.monomial.read_monomial.Goals as goal
 
 pub behind_constant-requires : goal.behind_constant-requires

@@ -1,17 +1,15 @@
 use mathlib.Core.Path.{◌≡◌, refl, sym, ◌∙◌}
 use mathlib.Core.Bool.{true}
 use mathlib.Core.Logic.{inl, inr}
-use Prim.Native.Nat.{◌-◌}
 use Prim.Native.Char.{code}
 use native.Mathlib.Omega.{arith}
-use lib.ListN.{length}
 use borrow.Author.Rules.{rules}
 use Rattle.words.specs.Words.{number_of}
 use Rattle.reader.specs.Fields.{stands_at}
 use Rattle.reader.proofs.Following.{passed_stop}
 use Rattle.reader.proofs.Fields.{stands, each_over}
 use Rattle.named.specs.Reads.{NameAt}
-use Rattle.named.proofs.Factors.{stopped, went_on, no_form, next_name, NamesTo, names_start, names_stuck, names_more}
+use Rattle.named.proofs.Factors.{stopped, went_on, no_form, next_name, names_start, names_stuck, names_more}
 use Rattle.named.proofs.monomial.read_names.Goals as goal
 use Rattle.named.proofs.monomial.read_names.Goals.{Else-v-eq-FORM, In-loop-room}
 
@@ -52,7 +50,7 @@ read : (c : Else-v-eq-FORM)
 read c = went_on c.read_name-v.ensures c.if-v-eq-FORM.false
 
 pub with-more-requires : goal.with-more-requires
-with-more-requires c = (read (goal.at.with-more-requires c).Else-v-eq-FORM).ranges
+with-more-requires c = (read (goal.at.with-more-requires c).Else-v-eq-FORM).fits
 
 pub loop-room-smaller : goal.loop-room-smaller
 loop-room-smaller c =

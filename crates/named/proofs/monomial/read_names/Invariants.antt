@@ -1,19 +1,10 @@
 -- `named::monomial::read_names` meets its contract. The loop's invariant: names stand from at up to i, as set, names and bad tell.
 -- The measure is what is left of the length. Assumes nothing.
-use mathlib.Core.Path.{◌≡◌, refl, sym, ◌∙◌}
-use mathlib.Core.Bool.{true}
-use mathlib.Core.Logic.{inl, inr}
+use mathlib.Core.Path.{◌≡◌}
 use Prim.Native.Nat.{◌-◌}
-use Prim.Native.Char.{code}
-use native.Mathlib.Omega.{arith}
 use lib.ListN.{length}
-use borrow.Author.Rules.{rules}
 use Rattle.words.specs.Words.{number_of}
-use Rattle.reader.specs.Fields.{stands_at}
-use Rattle.reader.proofs.Following.{passed_stop}
-use Rattle.reader.proofs.Fields.{stands, each_over}
-use Rattle.named.specs.Reads.{NameAt}
-use Rattle.named.proofs.Factors.{stopped, went_on, no_form, next_name, NamesTo, names_start, names_stuck, names_more}
+use Rattle.named.proofs.Factors.{NamesTo}
 use Rattle.named.proofs.monomial.read_names.Given as goal
 
 abbrev pub invariant-loop-room : goal.invariant-loop-room

@@ -1,7 +1,7 @@
-use Prim.Native.Nat.{◌-◌, ◌<◌}
+use Prim.Native.Nat.{◌<◌}
 use lib.ListN.{length}
 use borrow.Author.Rules.{rules}
-use Rattle.named.proofs.Tokens.{NameTo, name_none, name_inside, name_more, name_over}
+use Rattle.named.proofs.Tokens.{name_none, name_inside, name_more, name_over}
 use Rattle.named.proofs.name.name_end.Goals as goal
 use Rattle.named.proofs.name.name_end.Goals.{In-loop-i}
 

@@ -1,7 +1,6 @@
 -- `named::poly::read_poly` meets its contract: a first monomial and those behind it, or the zero polynomial. No loop. Assumes nothing.
 use mathlib.Core.Path.{◌∙◌}
 use native.Mathlib.Omega.{arith}
-use borrow.Author.Rules.{rules}
 use Rattle.named.specs.Reads.{MonomialAt}
 use Rattle.named.proofs.Factors.{stopped, went_on}
 use Rattle.named.proofs.Monomials.{monomial_form}

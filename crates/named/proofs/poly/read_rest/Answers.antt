@@ -1,11 +1,9 @@
-use mathlib.Core.Path.{◌≡◌, refl, ◌∙◌}
+use mathlib.Core.Path.{refl, ◌∙◌}
 use mathlib.Core.Logic.{inl, inr}
-use Prim.Native.Nat.{◌+◌, ◌-◌, ◌*◌, ◌≤◌, ◌<◌}
+use Prim.Native.Nat.{◌<◌}
 use native.Mathlib.Omega.{arith}
 use lib.ListN.{length}
 use borrow.Author.Rules.{rules}
-use Rattle.limits.specs.Limits.{field_terms, term_words}
-use Rattle.words.specs.Parts.{Within}
 use Rattle.words.proofs.Parts.{within_refl, within_trans}
 use Rattle.paper.specs.Published.{more_monomials}
 use Rattle.reader.proofs.Following.{read_stop}
@@ -13,7 +11,7 @@ use Rattle.reader.proofs.Gathering.{put_within}
 use Rattle.named.specs.Reads.{MonomialAt}
 use Rattle.named.proofs.Factors.{stopped, went_on}
 use Rattle.named.proofs.Monomials.{monomial_form}
-use Rattle.named.proofs.Polynomials.{sign_inside, no_monomial_law, MonomialsTo, monomials_none, monomials_stops, monomials_one}
+use Rattle.named.proofs.Polynomials.{sign_inside, no_monomial_law, monomials_none, monomials_stops, monomials_one}
 use Rattle.named.proofs.poly.read_rest.Goals as goal
 use Rattle.named.proofs.poly.read_rest.Goals.{Else-m-eq-FORM, In-loop-room}
 
@@ -40,7 +38,7 @@ returns-then-m-eq-FORM c =
       said = inl (
         c.if-m-eq-FORM.true,
         monomials_stops a.plain a.n a.s.now a.at a.room.now a.out.now l.room l.out l.terms l.why l.names l.bad l.i l.invariant.0
-            c.stands_at.result c.stands_at-in-loop-room.result c.stands_at.ensures c.stands_at-in-loop-room.ensures c.loop-room-test.taken c.skip_spaces.result c.skip_spaces.ensures c.stands_at-in-loop-room-2.result c.stands_at-in-loop-room-2.ensures (stopped c.read_monomial-m.ensures monomial_form c.if-m-eq-FORM.true),
+            c.stands_at.result c.stands_at-in-loop-room.result c.stands_at.ensures c.stands_at-in-loop-room.ensures c.loop-room-test.true c.skip_spaces.result c.skip_spaces.ensures c.stands_at-in-loop-room-2.result c.stands_at-in-loop-room-2.ensures (stopped c.read_monomial-m.ensures monomial_form c.if-m-eq-FORM.true),
       );
       within = l.invariant.1;
     }
@@ -53,7 +51,7 @@ read c = went_on c.read_monomial-m.ensures c.if-m-eq-FORM.false
 
 pub overflow_add-terms : goal.overflow_add-terms
 overflow_add-terms c =
-    record { fits = omega (arith, inside (goal.at.overflow_add-terms c).In-loop-room, c.loop-room.invariant.2, c.good.1.1.1.1.0.1) }
+    record { fits = omega (arith, inside (goal.at.overflow_add-terms c).In-loop-room, c.loop-room.invariant.2) }
 
 pub loop-room-smaller : goal.loop-room-smaller
 loop-room-smaller c =
@@ -64,7 +62,7 @@ loop-room-preserved c =
     let l = c.loop-room in
     let a = c.args in (
       monomials_one a.plain a.n a.s.now a.at a.room.now a.out.now l.room l.out l.terms l.why l.names l.bad l.i l.invariant.0
-          c.stands_at.result c.stands_at-in-loop-room.result c.stands_at.ensures c.stands_at-in-loop-room.ensures c.loop-room-test.taken c.skip_spaces.result c.skip_spaces.ensures c.stands_at-in-loop-room-2.result c.stands_at-in-loop-room-2.ensures
+          c.stands_at.result c.stands_at-in-loop-room.result c.stands_at.ensures c.stands_at-in-loop-room.ensures c.loop-room-test.true c.skip_spaces.result c.skip_spaces.ensures c.stands_at-in-loop-room-2.result c.stands_at-in-loop-room-2.ensures
           c.read_monomial-m.new.room c.put_term.new.out c.read_monomial-m.result (read (goal.at.loop-room-preserved c).Else-m-eq-FORM) c.put_term.ensures c.first_verdict-why.result c.first_verdict-why.ensures,
       within_trans l.invariant.1 (put_within (omega (arith, l.invariant.0.holds.count)) c.put_term.ensures),
       omega (arith, l.invariant.2, c.skip_spaces.ensures.onward, (read (goal.at.loop-room-preserved c).Else-m-eq-FORM).taken.onward),

@@ -1,5 +1,4 @@
 -- `named::token::constant_at` meets its contract: digits and the white space behind them, whether they are in range or not. No loop. Assumes nothing.
-use borrow.Author.Rules.{rules}
 use Rattle.reader.proofs.Numbers.{number_got}
 use Rattle.named.specs.Reads.{plain_digits}
 use Rattle.named.proofs.Tokens.{constant_in, constant_inside, constant_stuck, constant_out}

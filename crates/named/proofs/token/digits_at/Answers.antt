@@ -1,12 +1,11 @@
 -- `named::token::digits_at` meets its contract: the digits behind a first, and a number in its range or not. No loop. Assumes nothing.
 use mathlib.Core.Path.{◌≡◌, refl, sym, ◌∙◌}
 use mathlib.Core.Bool.{true}
-use mathlib.Core.Logic.{inl, inr, ⊎_elim}
+use mathlib.Core.Logic.{inl, inr}
 use Prim.Native.Nat.{◌+◌, ◌-◌}
 use native.Mathlib.Omega.{arith}
 use lib.ListN.{get_or}
 use borrow.Author.Rules.{rules}
-use borrow.Author.Tests.{not-true, not-false}
 use Rattle.paper.specs.Grammar.{is_digit, digits}
 use Rattle.reader.specs.Numbers.{DecimalIs}
 use Rattle.reader.proofs.Numbers.{decimal_got, decimal_by, within_below, within_above, number_refused}
@@ -26,14 +25,14 @@ here c = sym c.digit_at.ensures ∙ c.if-not-digit_at.false
 read : (c : After-digits_from-d) → DecimalIs plain_digits c.args.s.now c.args.at c.digits_from-d.result
 read c =
     let a = c.args in
-    decimal_by plain_digits (digits (get_or a.s.now a.at 0 - 48)) a.s.now a.at (a.at + 1) (digits_here a.s.now a.at (here c.before.before)) (omega arith) c.digits_from-d.result c.digits_from-d.ensures
+    decimal_by plain_digits (digits (get_or a.s.now a.at 0 - 48)) a.s.now a.at (a.at + 1) (digits_here a.s.now a.at (sym c.digit_at.ensures ∙ c.if-not-digit_at.false)) (omega arith) c.digits_from-d.result c.digits_from-d.ensures
 
 pub returns-in_default : goal.returns-in_default
 returns-in_default c =
     let a = c.args in
     rw c.outside.ensures
     (number_refused plain_digits a.low a.high a.s.now a.at (omega arith) c.digits_from-d.result (read (goal.at.returns-in_default c).After-digits_from-d)
-    (λ v e q. ⊎_elim (λ p. absurd (let z : ⊥ = omega arith in z)) (λ p. absurd (let z : ⊥ = omega arith in z)) (rw q at c.in_default.in_default-own.keys2)))
+    (λ v e q. absurd (c.in_default.not-Value v e q)))
 
 pub returns-then-v-low : goal.returns-then-v-low
 returns-then-v-low c =

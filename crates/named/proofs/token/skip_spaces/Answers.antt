@@ -1,10 +1,5 @@
-use mathlib.Core.Path.{◌≡◌, refl, sym, ◌∙◌}
-use Prim.Native.Nat.{◌≤◌, ◌-◌}
+use mathlib.Core.Path.{refl, sym, ◌∙◌}
 use native.Mathlib.Omega.{arith}
-use lib.ListN.{length, drop}
-use borrow.Author.Rules.{rules}
-use borrow.Author.Tests.{not-true, not-false}
-use Rattle.paper.specs.Published.{spaces}
 use Rattle.paper.proofs.PublishedReading.{spaces_more, spaces_stop, spaces_end}
 use Rattle.named.proofs.token.skip_spaces.Goals as goal
 

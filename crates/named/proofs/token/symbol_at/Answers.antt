@@ -1,7 +1,6 @@
 -- `named::token::symbol_at` meets its contract: the sign and the white space behind it, or another byte. No loop. Assumes nothing.
 use mathlib.Core.Path.{refl, sym, ◌∙◌}
 use borrow.Author.Rules.{rules}
-use borrow.Author.Tests.{not-true, not-false}
 use Rattle.reader.proofs.Fields.{stands}
 use Rattle.named.proofs.Tokens.{symbol_here, symbol_not}
 use Rattle.named.proofs.token.symbol_at.Goals as goal

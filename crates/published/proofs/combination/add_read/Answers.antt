@@ -1,15 +1,14 @@
 -- `published::combination::add_read` meets its contract: the pair is added, or nothing is. No loop. Assumes nothing.
 use mathlib.Core.Path.{sym, ◌∙◌}
-use borrow.Author.Rules.{rules}
 use Rattle.scratch.proofs.Keeping.{kept_refl}
 use Rattle.paper.proofs.Names.{never}
 use Rattle.published.proofs.combination.add_read.Goals as goal
 
 pub returns-then-why-ne-ACCEPTED : goal.returns-then-why-ne-ACCEPTED
-returns-then-why-ne-ACCEPTED c = (λ a b w h qs u. absurd (c.if-why-ne-ACCEPTED.true a), kept_refl)
+returns-then-why-ne-ACCEPTED c = record { summed = λ a b w h qs u. absurd (c.if-why-ne-ACCEPTED.true a); kept = kept_refl }
 
 pub returns-then-bad : goal.returns-then-bad
-returns-then-bad c = (λ a b w h qs u. never (sym c.if-bad.true ∙ b), kept_refl)
+returns-then-bad c = record { summed = λ a b w h qs u. never (sym c.if-bad.true ∙ b); kept = kept_refl }
 
 pub add_factor-requires : goal.add_factor-requires
 add_factor-requires c =
@@ -17,4 +16,4 @@ add_factor-requires c =
     (c.requires.0, c.requires.1, c.requires.2, x.0, x.1)
 
 pub returns : goal.returns
-returns c = (λ a b w h qs u. c.add_factor.ensures.summed w h qs u, c.add_factor.ensures.kept)
+returns c = record { summed = λ a b w h qs u. c.add_factor.ensures.summed w h qs u; kept = c.add_factor.ensures.kept }

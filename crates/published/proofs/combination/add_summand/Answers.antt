@@ -2,7 +2,6 @@
 use mathlib.Core.Path.{sym, ◌∙◌}
 use mathlib.Core.Logic.{inr}
 use native.Mathlib.Omega.{arith}
-use borrow.Author.Rules.{rules}
 use Rattle.ground.proofs.Tests.{or_none_left, or_none_right}
 use Rattle.reader.proofs.Verdicts.{lesser_accepted}
 use Rattle.scratch.specs.Scratch.{factor_at, goal_at}

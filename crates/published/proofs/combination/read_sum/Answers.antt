@@ -1,16 +1,11 @@
 use mathlib.Core.Path.{◌≡◌, refl, sym, ◌∙◌}
 use mathlib.Core.Bool.{true, not}
 use mathlib.Core.Logic.{⊎_elim}
-use Prim.Native.Nat.{◌-◌}
 use native.Mathlib.Omega.{arith}
 use lib.Dec.{eqb}
-use lib.ListN.{length}
-use borrow.Author.Rules.{rules}
 use Rattle.ground.proofs.Tests.{and_right}
 use Rattle.limits.specs.Verdicts.{FORM}
-use Rattle.paper.specs.Grammar.{Bytes}
 use Rattle.table.specs.Table.{store_of_columns}
-use Rattle.scratch.specs.Scratch.{Kept}
 use Rattle.scratch.proofs.Keeping.{kept_refl, kept_trans}
 use Rattle.reader.specs.Fields.{stands_at}
 use Rattle.reader.proofs.Fields.{stands}
@@ -39,11 +34,11 @@ loop-r-init c = ((λ x p. p), kept_refl, refl, refl)
 
 pub overflow_add-r : goal.overflow_add-r
 overflow_add-r c =
-    record { fits = omega (arith, (stands _ _ _ (here (goal.at.overflow_add-r c).In-loop-r)).0, c.good.1.1.1.1.1.1.1.1.1.1.0.1) }
+    record { fits = omega (arith, (stands _ _ _ (here (goal.at.overflow_add-r c).In-loop-r)).0) }
 
 pub add_summand-r-requires-in-loop-r : goal.add_summand-r-requires-in-loop-r
 add_summand-r-requires-in-loop-r c =
-    let p = (summands_on c.args.s.now c.args.at c.loop-r.r (now_read (goal.at.add_summand-r-requires-in-loop-r c).At-loop-r) c.stands_at.result c.loop-r-test.taken).more.holds in (
+    let p = (summands_on c.args.s.now c.args.at c.loop-r.r (now_read (goal.at.add_summand-r-requires-in-loop-r c).At-loop-r) c.stands_at.result c.loop-r-test.true).more.holds in (
       c.requires.0,
       c.requires.1,
       p.named.holding,
@@ -60,7 +55,7 @@ loop-r-smaller c =
 pub loop-r-preserved : goal.loop-r-preserved
 loop-r-preserved c =
     let a = c.args in (
-      (λ x p. summands_more a.s.now a.at c.loop-r.r (summands_on a.s.now a.at c.loop-r.r (c.loop-r.invariant.0 x p) c.stands_at.result c.loop-r-test.taken) c.add_summand-r-in-loop-r.result
+      (λ x p. summands_more a.s.now a.at c.loop-r.r (summands_on a.s.now a.at c.loop-r.r (c.loop-r.invariant.0 x p) c.stands_at.result c.loop-r-test.true) c.add_summand-r-in-loop-r.result
           (here (goal.at.loop-r-preserved c).In-loop-r) c.skip_spaces.ensures c.add_summand-r-in-loop-r.ensures),
       kept_trans c.loop-r.invariant.1 c.add_summand-r-in-loop-r.ensures.kept,
       c.add_summand-r-in-loop-r.auto.room ∙ c.loop-r.invariant.2,

@@ -1,6 +1,5 @@
 -- `published::pac::add_both` meets its contract: one polynomial is added behind the other. No loop. Assumes nothing.
 use native.Mathlib.Omega.{arith}
-use borrow.Author.Rules.{rules}
 use Rattle.scratch.proofs.Keeping.{kept_trans}
 use Rattle.published.proofs.pac.add_both.Goals as goal
 
@@ -14,4 +13,4 @@ add_one-requires c =
 
 pub returns : goal.returns
 returns c =
-    (λ a h. c.add_one.ensures.summed a h _ (c.add_one-first.ensures.summed a h _ (c.none-none.ensures _ _ _)), kept_trans c.add_one-first.ensures.kept c.add_one.ensures.kept)
+    record { summed = λ a h. c.add_one.ensures.summed a h _ (c.add_one-first.ensures.summed a h _ (c.none-none.ensures _ _ _)); kept = kept_trans c.add_one-first.ensures.kept c.add_one.ensures.kept }

@@ -1,7 +1,6 @@
 -- `published::pac::add_one` meets its contract: the factor 1 is put, and its pair added. No loop. Assumes nothing.
 use mathlib.Core.Path.{refl}
 use native.Mathlib.Omega.{arith}
-use borrow.Author.Rules.{rules}
 use Rattle.paper.specs.Statement.{renamed_field, renamed_pair}
 use Rattle.paper.specs.Published.{one}
 use Rattle.scratch.specs.Scratch.{factor_at, goal_at}
@@ -19,7 +18,7 @@ add_read-requires c = (
 
 pub returns : goal.returns
 unfolding renamed_pair
-returns c = (
-  λ a g qs u. c.add_read.ensures.summed a refl (renamed_field g one) (c.put_one.ensures.holds g) qs (summed_kept factor_at goal_at c.put_one.ensures.kept (omega arith) u),
-  kept_trans (kept_factor _ _ c.put_one.ensures.kept) c.add_read.ensures.kept,
-)
+returns c = record {
+  summed = λ a g qs u. c.add_read.ensures.summed a refl (renamed_field g one) (c.put_one.ensures.holds g) qs (summed_kept factor_at goal_at c.put_one.ensures.kept (omega arith) u);
+  kept = kept_trans (kept_factor _ _ c.put_one.ensures.kept) c.add_read.ensures.kept;
+}

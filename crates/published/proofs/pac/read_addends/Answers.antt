@@ -5,7 +5,6 @@ use mathlib.Core.Bool.{true}
 use mathlib.Core.Logic.{inr}
 use native.Mathlib.Omega.{arith}
 use borrow.Author.Rules.{rules}
-use borrow.Author.Tests.{not-true, not-false}
 use Rattle.scratch.proofs.Keeping.{kept_refl}
 use Rattle.reader.specs.Fields.{stands_at}
 use Rattle.reader.proofs.Fields.{stands}

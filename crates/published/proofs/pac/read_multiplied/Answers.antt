@@ -1,7 +1,6 @@
 -- `published::pac::read_multiplied` meets its contract: one pair, and the sum of it alone. No loop. Assumes nothing.
 use mathlib.Core.Logic.{inr}
 use native.Mathlib.Omega.{arith}
-use borrow.Author.Rules.{rules}
 use Rattle.scratch.proofs.Keeping.{kept_trans, kept_factor}
 use Rattle.named.proofs.Factors.{stopped, went_on}
 use Rattle.published.proofs.Regions.{named_form}

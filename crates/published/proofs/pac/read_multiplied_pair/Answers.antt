@@ -1,6 +1,5 @@
 -- `published::pac::read_multiplied_pair` meets its contract: an id, a comma and a polynomial in a row. No loop. Assumes nothing.
 use native.Mathlib.Omega.{arith}
-use borrow.Author.Rules.{rules}
 use Rattle.words.proofs.Parts.{within_refl}
 use Rattle.named.proofs.Factors.{stopped, went_on}
 use Rattle.published.proofs.Regions.{named_form, id_form, summand_stops, product_unread, product_stuck, product_took}

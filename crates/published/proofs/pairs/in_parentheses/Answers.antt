@@ -4,7 +4,6 @@ use mathlib.Core.Bool.{true}
 use mathlib.Core.Logic.{inr}
 use native.Mathlib.Omega.{arith}
 use borrow.Author.Rules.{rules}
-use borrow.Author.Tests.{not-true, not-false}
 use Rattle.words.proofs.Parts.{within_refl}
 use Rattle.reader.specs.Fields.{stands_at}
 use Rattle.reader.proofs.Fields.{stands}

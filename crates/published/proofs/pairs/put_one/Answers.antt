@@ -5,7 +5,7 @@ use Rattle.published.proofs.Regions.{one_holds, one_within}
 use Rattle.published.proofs.pairs.put_one.Goals as goal
 
 pub returns : goal.returns
-returns c = (
-  one_holds c.args.scratch.now c.term_of-t.result c.write_term.new.s (omega arith) (search rules) c.write_term.ensures c.term_of-t.ensures,
-  one_within c.args.scratch.now c.term_of-t.result c.write_term.new.s (omega arith) (search rules) c.write_term.ensures,
-)
+returns c = record {
+  holds = one_holds c.args.scratch.now c.term_of-t.result c.write_term.new.s (omega arith) (search rules) c.write_term.ensures c.term_of-t.ensures;
+  kept = one_within c.args.scratch.now c.term_of-t.result c.write_term.new.s (omega arith) (search rules) c.write_term.ensures;
+}

@@ -1,7 +1,6 @@
 -- `published::pairs::read_factor` meets its contract: behind a * or omitted. No loop. Assumes nothing.
 use mathlib.Core.Path.{sym, ◌∙◌}
 use native.Mathlib.Omega.{arith}
-use borrow.Author.Rules.{rules}
 use Rattle.reader.proofs.Fields.{stands}
 use Rattle.published.proofs.Regions.{factor_behind, factor_omitted}
 use Rattle.published.proofs.pairs.read_factor.Goals as goal

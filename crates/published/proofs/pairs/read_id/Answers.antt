@@ -1,7 +1,6 @@
 -- `published::pairs::read_id` meets its contract: an id in its range, which half a word holds, or one that is refused. No loop. Assumes nothing.
 use mathlib.Core.Path.{refl}
 use native.Mathlib.Omega.{arith}
-use borrow.Author.Rules.{rules}
 use Rattle.limits.specs.Limits.{greatest_index}
 use Rattle.paper.specs.Published.{constant}
 use Rattle.reader.specs.Numbers.{InRange}

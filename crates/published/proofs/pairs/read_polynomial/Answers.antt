@@ -1,7 +1,6 @@
 -- `published::pairs::read_polynomial` meets its contract: a polynomial read into its region. No loop. Assumes nothing.
 use Prim.Native.Nat.{◌+◌, ◌-◌, ◌*◌}
 use native.Mathlib.Omega.{arith}
-use borrow.Author.Rules.{rules}
 use Rattle.limits.specs.Limits.{field_terms, term_words}
 use Rattle.words.proofs.Parts.{length_part}
 use Rattle.published.proofs.Regions.{poly_placed}

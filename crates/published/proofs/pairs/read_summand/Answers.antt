@@ -1,5 +1,4 @@
 -- `published::pairs::read_summand` meets its contract: an id and a factor in a row. No loop. Assumes nothing.
-use borrow.Author.Rules.{rules}
 use Rattle.words.proofs.Parts.{within_refl}
 use Rattle.named.proofs.Factors.{stopped, went_on}
 use Rattle.published.proofs.Regions.{named_form, id_form, summand_stops, id_stuck, factor_stuck, summand_took}

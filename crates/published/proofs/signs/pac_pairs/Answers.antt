@@ -1,5 +1,4 @@
 -- `published::signs::pac_pairs` meets its contract: a sum behind +, else a product. No loop. Assumes nothing.
-use borrow.Author.Rules.{rules}
 use Rattle.published.proofs.StepRules.{sum_as, pairs_added, pairs_multiplied}
 use Rattle.published.proofs.signs.pac_pairs.Goals as goal
 

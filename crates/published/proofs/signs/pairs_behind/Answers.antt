@@ -1,5 +1,4 @@
 -- `published::signs::pairs_behind` meets its contract: summands behind %, else PAC's pairs. No loop. Assumes nothing.
-use borrow.Author.Rules.{rules}
 use Rattle.published.proofs.StepRules.{sum_as, pairs_summed}
 use Rattle.published.proofs.signs.pairs_behind.Goals as goal
 

@@ -1,5 +1,4 @@
 -- `published::statement::closed` meets its contract: bytes left, a refusal, a bad name, or none of them. No loop. Assumes nothing.
-use borrow.Author.Rules.{rules}
 use Rattle.published.proofs.Closing.{closed_left, closed_why, closed_bad, closed_fine}
 use Rattle.published.proofs.statement.closed.Goals as goal
 

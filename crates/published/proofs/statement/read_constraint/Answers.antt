@@ -1,6 +1,5 @@
 -- `published::statement::read_constraint` meets its contract: an id and a polynomial in a row. No loop. Assumes nothing.
 use native.Mathlib.Omega.{arith}
-use borrow.Author.Rules.{rules}
 use Rattle.words.proofs.Parts.{within_refl}
 use Rattle.scratch.proofs.Keeping.{stated_kept}
 use Rattle.named.proofs.Factors.{stopped, went_on}

@@ -1,6 +1,4 @@
 -- `published::statement::read_statement` meets its contract: too long, not ended, or read by its kind. No loop. Assumes nothing.
-use borrow.Author.Tests.{not-true, not-false}
-use borrow.Author.Rules.{rules}
 use Rattle.words.proofs.Parts.{within_refl}
 use Rattle.published.proofs.Closing.{item_stops}
 use Rattle.published.proofs.StepRules.{kind_constraint, kind_target, kind_none, kind_step, none_stops, piece_long, piece_unended, piece_ended}
@@ -27,4 +25,4 @@ returns-then-kind-eq-NONE c =
 
 pub returns : goal.returns
 returns c =
-    piece_ended _ _ c.Read-step.result c.if-s-gt-LINE_BYTES.false (kind_step c.if-kind-eq-CONSTRAINT.false c.if-kind-eq-TARGET.false c.if-kind-eq-NONE.false) c.if-not-ended.false c.Read-step.ensures
+    piece_ended _ _ c.read_step.result c.if-s-gt-LINE_BYTES.false (kind_step c.if-kind-eq-CONSTRAINT.false c.if-kind-eq-TARGET.false c.if-kind-eq-NONE.false) c.if-not-ended.false c.read_step.ensures

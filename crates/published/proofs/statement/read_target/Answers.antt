@@ -1,5 +1,4 @@
 -- `published::statement::read_target` meets its contract: a polynomial. No loop. Assumes nothing.
-use borrow.Author.Rules.{rules}
 use Rattle.scratch.proofs.Keeping.{stated_kept}
 use Rattle.named.proofs.Factors.{stopped, went_on}
 use Rattle.published.proofs.Regions.{named_form}

@@ -1,5 +1,4 @@
 -- `published::step::read_delete` meets its contract: nothing behind its sign. No loop. Assumes nothing.
-use borrow.Author.Rules.{rules}
 use Rattle.published.proofs.StatementKinds.{delete_item}
 use Rattle.published.proofs.step.read_delete.Goals as goal
 

@@ -1,7 +1,6 @@
 -- `published::step::read_extend` meets its contract: a name, a comma and a polynomial in a row. No loop. Assumes nothing.
 use mathlib.Core.Path.{refl, ◌∙◌}
 use native.Mathlib.Omega.{arith}
-use borrow.Author.Rules.{rules}
 use Rattle.words.proofs.Parts.{within_refl}
 use Rattle.scratch.proofs.Keeping.{stated_kept}
 use Rattle.named.proofs.Factors.{stopped, went_on, no_form}

@@ -1,7 +1,6 @@
 -- `published::step::read_linear` meets its contract: pairs, a comma and a polynomial in a row. No loop. Assumes nothing.
 use mathlib.Core.Path.{◌∙◌}
 use native.Mathlib.Omega.{arith}
-use borrow.Author.Rules.{rules}
 use Rattle.named.proofs.Factors.{stopped, went_on}
 use Rattle.published.proofs.Regions.{named_form}
 use Rattle.published.proofs.Closing.{item_stops}

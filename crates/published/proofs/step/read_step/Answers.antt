@@ -29,7 +29,7 @@ read : (c : Else-i-eq-FORM) → IdAt c.args.s.now 0 c.read_id-i.result
 read c = went_on c.read_id-i.ensures c.if-i-eq-FORM.false
 
 within : (c : Else-end-s) → c.read_id-i.result.end < length c.args.s.now
-within c = let l = (read c.before).taken.inside in omega arith
+within c = let l = (went_on c.read_id-i.ensures c.if-i-eq-FORM.false).taken.inside in omega arith
 
 pub returns-then-b : goal.returns-then-b
 returns-then-b c =

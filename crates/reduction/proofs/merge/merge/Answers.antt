@@ -1,5 +1,5 @@
-use Rattle.std.proofs.Common.{◌-◌, arith, rules}
-use Rattle.reduction.proofs.Merging.{Summing, summing_none, summing_start, summing_same, summing_other, summing_end}
+use Rattle.std.proofs.Common.{arith, rules}
+use Rattle.reduction.proofs.Merging.{summing_none, summing_start, summing_same, summing_other, summing_end}
 use Rattle.reduction.proofs.merge.merge.Goals as goal
 
 pub loop-i-init : goal.loop-i-init

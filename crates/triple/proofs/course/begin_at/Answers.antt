@@ -1,5 +1,4 @@
 -- `triple::course::begin_at` meets its contract: behind the end, or behind white space. No loop. Assumes nothing.
-use borrow.Author.Rules.{rules}
 use Rattle.triple.proofs.Places.{begins_behind, begins_inside}
 use Rattle.triple.proofs.course.begin_at.Goals as goal
 

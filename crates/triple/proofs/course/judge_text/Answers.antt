@@ -3,8 +3,7 @@ use mathlib.Core.List.{List}
 use Prim.Native.Nat.{ℕ, ◌+◌, ◌-◌, ◌<◌}
 use native.Mathlib.Omega.{arith}
 use lib.ListN.{length, drop}
-use borrow.Author.Rules.{rules}
-use Rattle.paper.specs.Published.{Name, pieces, read_by}
+use Rattle.paper.specs.Published.{Name, NamedItem, pieces, read_by}
 use Rattle.paper.specs.Named.{numbered}
 use Rattle.table.specs.Table.{store_of}
 use Rattle.steps.specs.declared.said.Said.{Said}
@@ -20,63 +19,71 @@ use Rattle.triple.specs.Courses.{Judging}
 use Rattle.triple.proofs.Telling.{refuses, own_item}
 use Rattle.triple.proofs.Underway.{as_read, behind_it, StepLeaves, leaves_step, leaves_refused, AtPiece, at_piece, piece_at, items_next, items_end, judging_start, judging_room, judging_next, judging_end, at_end}
 use Rattle.triple.proofs.course.judge_text.Goals as goal
-use Rattle.triple.proofs.course.judge_text.Goals.{After-find_byte-e, After-kind_behind-next, In-loop-c}
+use Rattle.triple.proofs.course.judge_text.Goals.{After-find_byte-e, After-kind_behind-next}
 
 -- no statement was refused, and one is left
-going : (c : In-loop-c) → (c.loop-c.c.step.verdict ≡ 0) × (c.loop-c.at < length c.args.text.now)
-going c = goes c.loop-c.c.step.verdict c.loop-c.at c.args.text.now c.loop-c-test.true
+going : (d : After-find_byte-e) → (d.loop-c.c.step.verdict ≡ 0) × (d.loop-c.at < length d.args.text.now)
+going d = goes d.loop-c.c.step.verdict d.loop-c.at d.args.text.now d.loop-c-test.true
 
 room : (d : After-find_byte-e) → Room d.args.capacity d.loop-c.c.step.state d.loop-c.pool d.loop-c.scratch
-room d = let g = going d.before in judging_room d.loop-c.invariant.0 g.0 (omega (arith, g.1))
+room d = let g = going d in judging_room d.loop-c.invariant.0 g.0 (omega (arith, g.1))
 
--- the item that is there, in numbers of its own
-own : (z : After-kind_behind-next) {y : Said} → (read_at z).read-statement.result.said ≡ y → NoRefusal y
-    → (f : Name → ℕ) × ItemIs (begins (found (read_at z))).loop.c.step.state.ring (store_of (begins (found (read_at z))).loop.c.step.state.table (begins (found (read_at z))).loop.pool) (numbered f (read_by (reader_of (begins (found (read_at z))).loop.next) (piece_at (start (begins (found (read_at z)))).args.text.now (begins (found (read_at z))).loop.at (found (read_at z)).find-byte.result))) (begins (found (read_at z))).loop.scratch (read_at z).read-statement.new.1.1.1.1.1.1.1.1.1.1.1.1.1.0 (as_read (read_at z).read-statement.result)
-own z e h = own_item (read_at z).read-statement.ensures e h
+module _ (z : After-kind_behind-next) where
+  onto : (z.loop-c.c.step.verdict ≡ 0) × (z.loop-c.at < length z.args.text.now)
+  onto = goes z.loop-c.c.step.verdict z.loop-c.at z.args.text.now z.loop-c-test.true
 
-less : (z : After-kind_behind-next) → length z.args.text.now - z.begin_at-at-in-loop-c.result < length z.args.text.now - z.loop-c.at
-less z =
-    let g = (going z.before.before.before.before.before.before.before.before.before.before.before.before.before.before.before.before.before).1 in
-    let o = z.begin_at-at-in-loop-c.ensures.onward z.loop-c.at (omega arith) g in
-    omega arith
+  less : length z.args.text.now - z.begin_at-at-in-loop-c.result < length z.args.text.now - z.loop-c.at
+  less =
+      let g = onto.1 in
+      let o = z.begin_at-at-in-loop-c.ensures.onward z.loop-c.at (omega arith) g in
+      omega arith
 
--- a statement that was judged leads on
-abbrev Judges : (z : After-kind_behind-next) → Step → List ℕ → List ℕ → Type 0
-Judges z r pool' scratch'' =
-    (f : Name → ℕ) → ItemIs z.loop-c.c.step.state.ring (store_of z.loop-c.c.step.state.table z.loop-c.pool) (numbered f (read_by (reader_of z.loop-c.next) (piece_at z.args.text.now z.loop-c.at z.find_byte-e.result))) z.loop-c.scratch z.read_statement-line.new.scratch (as_read z.read_statement-line.result)
-    → ItemJudged z.args.capacity (numbered f (read_by (reader_of z.loop-c.next) (piece_at z.args.text.now z.loop-c.at z.find_byte-e.result))) z.loop-c.c.step.state z.loop-c.pool z.loop-c.scratch r pool' scratch''
+  -- the statement that is there
+  abbrev there : NamedItem
+  there = read_by (reader_of z.loop-c.next) (piece_at z.args.text.now z.loop-c.at z.find_byte-e.result)
 
-abbrev Again : (z : After-kind_behind-next) → Step → List ℕ → List ℕ → Type 0
-Again z r pool' scratch'' =
-    let a = z.args in
-    invariant_loop a.kind a.text.now a.plain a.room.now a.hints.now a.pool.now a.scratch.now a.capacity a.c 0 0
-    z.read_statement-line.new.room z.read_statement-line.new.hints pool' scratch'' (behind_it z.read_statement-line.result r) z.kind_behind-next.result z.begin_at-at-in-loop-c.result
+  abbrev Read : (Name → ℕ) → Type 0
+  Read f = ItemIs z.loop-c.c.step.state.ring (store_of z.loop-c.c.step.state.table z.loop-c.pool) (numbered f there) z.loop-c.scratch z.read_statement-line.new.scratch (as_read z.read_statement-line.result)
 
-more : (z : After-kind_behind-next) {r : Step} {pool' scratch'' : List ℕ} → StepLeaves (start (begins (found (read_at z)))).args.capacity (begins (found (read_at z))).loop.c.step.state (read_at z).read-statement.result r pool' scratch''
-    → Judges z r pool' scratch'' → length pool' ≡ length (begins (found (read_at z))).loop.pool → length scratch'' ≡ length (begins (found (read_at z))).loop.scratch → Again z r pool' scratch''
-more z m j p q =
-    let d = found (read_at z) in
-    let l = (begins d).loop in
-    let i = l.inv in
-    let g = going d.before in
-    let h = d.find-byte.ensures in
-    let b = z.before.begin-at2.ensures in
-    let o = h.without.onward in
-    let k = (read_at z).read-statement.auto in (
-      judging_next i.0 g.0 (items_next l.next g.1 i.1 h b z.kind-behind.ensures) (read_at z).read-statement.ensures m j (omega (arith, b.onward l.at (omega arith) g.1)),
-      at_piece b,
-      k.1.1.1.1.1.1.1.1.0 ∙ i.2,
-      k.1.1.1.1.1.1.1.1.1.0 ∙ i.3,
-      p ∙ i.4,
-      q ∙ i.5,
-    )
+  -- it was read in numbers of its own
+  own : {y : Said} → z.read_statement-line.result.said ≡ y → NoRefusal y → (f : Name → ℕ) × Read f
+  own e h = own_item z.read_statement-line.ensures e h
 
-stepped : (z : After-kind_behind-next) {y : Said} {r : Step} {pool' scratch'' : List ℕ} → (read_at z).read-statement.result.said ≡ y → NoRefusal y
-    → Judges z r pool' scratch'' → Again z r pool' scratch''
-stepped z e h j =
-    let o = own z e h in
-    let k = j o.0 o.1 in
-    more z (leaves_step k (subst NoRefusal (sym e) h)) j k.pool-length k.scratch-length
+  -- a statement that was judged leads on
+  abbrev Judges : Step → List ℕ → List ℕ → Type 0
+  Judges r pool' scratch'' = (f : Name → ℕ) → Read f → ItemJudged z.args.capacity (numbered f there) z.loop-c.c.step.state z.loop-c.pool z.loop-c.scratch r pool' scratch''
+
+  abbrev Again : Step → List ℕ → List ℕ → Type 0
+  Again r pool' scratch'' =
+      let a = z.args in
+      let l = z.read_statement-line in
+      Judging a.capacity a.plain (items_of a.kind (pieces a.text.now)) a.c a.room.now a.pool.now a.scratch.now
+      (items_of z.kind_behind-next.result (pieces (drop z.begin_at-at-in-loop-c.result a.text.now))) (behind_it l.result r) l.new.room pool' scratch'' (a.c.step.state.lines + z.begin_at-at-in-loop-c.result)
+      × AtPiece a.text.now z.begin_at-at-in-loop-c.result × (length l.new.room ≡ length a.room.now) × (length l.new.hints ≡ length a.hints.now)
+      × (length pool' ≡ length a.pool.now) × (length scratch'' ≡ length a.scratch.now)
+
+  more : {r : Step} {pool' scratch'' : List ℕ} → StepLeaves z.args.capacity z.loop-c.c.step.state z.read_statement-line.result r pool' scratch''
+      → Judges r pool' scratch'' → length pool' ≡ length z.loop-c.pool → length scratch'' ≡ length z.loop-c.scratch → Again r pool' scratch''
+  more m j p q =
+      let i = z.loop-c.invariant in
+      let g = onto in
+      let h = z.find_byte-e.ensures in
+      let o = h.without.onward in
+      let b = z.begin_at-at-in-loop-c.ensures in
+      let k = z.read_statement-line.auto in (
+        judging_next i.0 g.0 (items_next z.loop-c.next g.1 i.1 h b z.kind_behind-next.ensures) z.read_statement-line.ensures m j (omega (arith, b.onward z.loop-c.at (omega arith) g.1)),
+        at_piece b,
+        k.room ∙ i.2,
+        k.hints ∙ i.3,
+        p ∙ i.4,
+        q ∙ i.5,
+      )
+
+  stepped : {y : Said} {r : Step} {pool' scratch'' : List ℕ} → z.read_statement-line.result.said ≡ y → NoRefusal y → Judges r pool' scratch'' → Again r pool' scratch''
+  stepped e h j =
+      let o = own e h in
+      let k = j o.0 o.1 in
+      more (leaves_step k (subst NoRefusal (sym e) h)) j k.pool_length k.scratch_length
 
 pub loop-c-init : goal.loop-c-init
 loop-c-init c =
@@ -94,7 +101,7 @@ slice_bounds-read_statement-end c = omega arith
 
 pub read_statement-line-requires : goal.read_statement-line-requires
 read_statement-line-requires c =
-    let g = going (goal.at.read_statement-line-requires c).In-loop-c in
+    let g = going (goal.at.read_statement-line-requires c).After-find_byte-e in
     let q = ready_reads (room (goal.at.read_statement-line-requires c).After-find_byte-e).ready in
     (q.0, q.1, c.loop-c.invariant.0.able.holding g.0, omega (arith, c.loop-c.invariant.3, c.requires.2), q.2)
 
@@ -104,35 +111,35 @@ overflow_add-e c =
 
 pub step_ring-c-requires : goal.step_ring-c-requires
 step_ring-c-requires c =
-    ask_ring (own c.before.before.before.before c.in-Ring.is tt).1 c.in-Ring.is (room (goal.at.step_ring-c-requires c).After-find_byte-e)
+    ask_ring (own (goal.at.step_ring-c-requires c).After-kind_behind-next c.in-Ring.is tt).1 c.in-Ring.is (room (goal.at.step_ring-c-requires c).After-find_byte-e)
 
 pub loop-c-preserved-in-Ring : goal.loop-c-preserved-in-Ring
 loop-c-preserved-in-Ring c =
-    stepped c.before.before.before.before.before c.in-Ring.is tt (λ f y. judged_ring y c.in-Ring.is (room (goal.at.loop-c-preserved-in-Ring c).After-find_byte-e) c.step_ring-c.ensures)
+    stepped (goal.at.loop-c-preserved-in-Ring c).After-kind_behind-next c.in-Ring.is tt (λ f y. judged_ring y c.in-Ring.is (room (goal.at.loop-c-preserved-in-Ring c).After-find_byte-e) c.step_ring-c.ensures)
 
 pub step_input-c-requires : goal.step_input-c-requires
 step_input-c-requires c =
-    ask_input (own c.before.before.before.before.before.before c.in-Input.is tt).1 c.in-Input.is (room (goal.at.step_input-c-requires c).After-find_byte-e)
+    ask_input (own (goal.at.step_input-c-requires c).After-kind_behind-next c.in-Input.is tt).1 c.in-Input.is (room (goal.at.step_input-c-requires c).After-find_byte-e)
 
 pub loop-c-preserved-in-Input : goal.loop-c-preserved-in-Input
 loop-c-preserved-in-Input c =
-    stepped c.before.before.before.before.before.before.before.before.before.before.before c.in-Input.is tt (λ f y. judged_input y c.in-Input.is c.step_input-c.ensures)
+    stepped (goal.at.loop-c-preserved-in-Input c).After-kind_behind-next c.in-Input.is tt (λ f y. judged_input y c.in-Input.is c.step_input-c.ensures)
 
 pub step_goal-c-requires : goal.step_goal-c-requires
 step_goal-c-requires c =
-    ask_goal (own c.before.before.before.before.before.before c.in-Goal.is tt).1 c.in-Goal.is (room (goal.at.step_goal-c-requires c).After-find_byte-e)
+    ask_goal (own (goal.at.step_goal-c-requires c).After-kind_behind-next c.in-Goal.is tt).1 c.in-Goal.is (room (goal.at.step_goal-c-requires c).After-find_byte-e)
 
 pub loop-c-preserved-in-Goal : goal.loop-c-preserved-in-Goal
 loop-c-preserved-in-Goal c =
-    stepped c.before.before.before.before.before.before.before.before.before c.in-Goal.is tt (λ f y. judged_goal y c.in-Goal.is (room (goal.at.loop-c-preserved-in-Goal c).After-find_byte-e) c.step_goal-c.ensures)
+    stepped (goal.at.loop-c-preserved-in-Goal c).After-kind_behind-next c.in-Goal.is tt (λ f y. judged_goal y c.in-Goal.is (room (goal.at.loop-c-preserved-in-Goal c).After-find_byte-e) c.step_goal-c.ensures)
 
 pub step_lin-c-requires : goal.step_lin-c-requires
 step_lin-c-requires c =
-    ask_lin (own c.before.before.before.before.before.before c.in-Lin.is tt).1 c.in-Lin.is (room (goal.at.step_lin-c-requires c).After-find_byte-e)
+    ask_lin (own (goal.at.step_lin-c-requires c).After-kind_behind-next c.in-Lin.is tt).1 c.in-Lin.is (room (goal.at.step_lin-c-requires c).After-find_byte-e)
 
 pub loop-c-preserved-in-Lin : goal.loop-c-preserved-in-Lin
 loop-c-preserved-in-Lin c =
-    stepped c.before.before.before.before.before.before.before.before.before.before.before c.in-Lin.is tt (λ f y. judged_lin y c.in-Lin.is c.step_lin-c.ensures)
+    stepped (goal.at.loop-c-preserved-in-Lin c).After-kind_behind-next c.in-Lin.is tt (λ f y. judged_lin y c.in-Lin.is c.step_lin-c.ensures)
 
 pub step_del-c-requires : goal.step_del-c-requires
 step_del-c-requires c =
@@ -140,19 +147,19 @@ step_del-c-requires c =
 
 pub loop-c-preserved-in-Del : goal.loop-c-preserved-in-Del
 loop-c-preserved-in-Del c =
-    stepped c.before.before.before.before.before.before.before.before c.in-Del.is tt (λ f y. judged_del y c.in-Del.is (room (goal.at.loop-c-preserved-in-Del c).After-find_byte-e) c.step_del-c.ensures)
+    stepped (goal.at.loop-c-preserved-in-Del c).After-kind_behind-next c.in-Del.is tt (λ f y. judged_del y c.in-Del.is (room (goal.at.loop-c-preserved-in-Del c).After-find_byte-e) c.step_del-c.ensures)
 
 pub step_ext-c-requires : goal.step_ext-c-requires
 step_ext-c-requires c =
-    ask_ext (own c.before.before.before.before.before.before c.in-Ext.is tt).1 c.in-Ext.is (room (goal.at.step_ext-c-requires c).After-find_byte-e)
+    ask_ext (own (goal.at.step_ext-c-requires c).After-kind_behind-next c.in-Ext.is tt).1 c.in-Ext.is (room (goal.at.step_ext-c-requires c).After-find_byte-e)
 
 pub loop-c-preserved-in-Ext : goal.loop-c-preserved-in-Ext
 loop-c-preserved-in-Ext c =
-    stepped c.before.before.before.before.before.before.before.before.before.before.before c.in-Ext.is tt (λ f y. judged_ext y c.in-Ext.is c.step_ext-c.ensures)
+    stepped (goal.at.loop-c-preserved-in-Ext c).After-kind_behind-next c.in-Ext.is tt (λ f y. judged_ext y c.in-Ext.is c.step_ext-c.ensures)
 
 pub loop-c-preserved : goal.loop-c-preserved
 loop-c-preserved c =
-    more c.before.before.before.before (leaves_refused c.in-Refused.is (refuses c.read_statement-line.ensures.tells _ c.in-Refused.is)) (λ f y. judged_refused y c.in-Refused.is) refl c.read_statement-line.ensures.kept.same
+    more (goal.at.loop-c-preserved c).After-kind_behind-next (leaves_refused c.in-Refused.is (refuses c.read_statement-line.ensures.tells _ c.in-Refused.is)) (λ f y. judged_refused y c.in-Refused.is) refl c.read_statement-line.ensures.kept.same
 
 -- ---- behind the last statement
 pub returns : goal.returns

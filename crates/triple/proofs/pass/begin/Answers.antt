@@ -1,5 +1,4 @@
 -- `triple::pass::begin` meets its contract: a fresh state in the ring of k. No loop. Assumes nothing.
-use borrow.Author.Rules.{rules}
 use Rattle.triple.proofs.Passing.{begun}
 use Rattle.triple.proofs.pass.begin.Goals as goal
 

@@ -2,7 +2,6 @@
 use mathlib.Core.Path.{ap₂, ◌∙◌}
 use Prim.Native.Nat.{ℕ}
 use native.Mathlib.Numerals.{add-one}
-use borrow.Author.Rules.{rules}
 use Rattle.paper.specs.Answer.{report}
 use Rattle.paper.proofs.Names.{never}
 use Rattle.steps.specs.State.{state_of}

@@ -1,7 +1,6 @@
 -- `triple::pass::pass` meets its contract: three texts in turn, or two where the target is none. No loop. Assumes nothing.
 use mathlib.Core.Path.{refl, ◌∙◌}
 use native.Mathlib.Omega.{arith}
-use borrow.Author.Rules.{rules}
 use Rattle.triple.proofs.Underway.{judging_start}
 use Rattle.triple.proofs.Passing.{begun_able, items_without, items_with, passed}
 use Rattle.triple.proofs.pass.pass.Goals as goal

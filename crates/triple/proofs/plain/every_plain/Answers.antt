@@ -2,7 +2,6 @@
 use mathlib.Core.Path.{refl, sym, ◌∙◌}
 use mathlib.Core.List.{[]}
 use native.Mathlib.Omega.{arith}
-use borrow.Author.Rules.{rules}
 use borrow.Author.Tests.{not-true, not-false}
 use Rattle.paper.specs.Named.{Texts}
 use Rattle.triple.proofs.Passing.{items_by, items_without, items_with, of_proof}
@@ -18,7 +17,7 @@ plain_text-a-requires c = (c.requires.0, c.requires.3, c.requires.4, c.requires.
 
 pub returns-then-not-a : goal.returns-then-not-a
 returns-then-not-a c =
-    first_closed (texts (goal.at.returns-then-not-a c).After-plain_text-a) _ (items_by (texts (goal.at.returns-then-not-a c).After-plain_text-a) _ refl) c.plain_text-a.result c.plain_text-a.ensures c.if-not-a.true
+    first_closed (texts (goal.at.returns-then-not-a c).After-plain_text-a) _ (items_by (texts (goal.at.returns-then-not-a c).After-plain_text-a) _ refl) c.plain_text-a.result c.plain_text-a.ensures (not-true _ c.if-not-a.true)
 
 pub plain_text-b-requires : goal.plain_text-b-requires
 plain_text-b-requires c =
@@ -26,12 +25,12 @@ plain_text-b-requires c =
 
 pub returns-then-not-b : goal.returns-then-not-b
 returns-then-not-b c =
-    second_closed (texts (goal.at.returns-then-not-b c).After-plain_text-a) _ (items_by (texts (goal.at.returns-then-not-b c).After-plain_text-a) _ refl) c.plain_text-a.result c.plain_text-a.ensures c.if-not-a.false c.plain_text-b.result c.plain_text-b.ensures c.if-not-b.true
+    second_closed (texts (goal.at.returns-then-not-b c).After-plain_text-a) _ (items_by (texts (goal.at.returns-then-not-b c).After-plain_text-a) _ refl) c.plain_text-a.result c.plain_text-a.ensures (not-false _ c.if-not-a.false) c.plain_text-b.result c.plain_text-b.ensures (not-true _ c.if-not-b.true)
 
 pub returns-then-begin_at-target : goal.returns-then-begin_at-target
 returns-then-begin_at-target c =
     plain_end
-    ∙ sym (second_open (texts (goal.at.returns-then-begin_at-target c).After-plain_text-a) [] (items_without (texts (goal.at.returns-then-begin_at-target c).After-plain_text-a) c.begin_at.ensures c.if-begin_at-target.true) c.plain_text-a.result c.plain_text-a.ensures c.if-not-a.false c.plain_text-b.result c.plain_text-b.ensures c.if-not-b.false)
+    ∙ sym (second_open (texts (goal.at.returns-then-begin_at-target c).After-plain_text-a) [] (items_without (texts (goal.at.returns-then-begin_at-target c).After-plain_text-a) c.begin_at.ensures c.if-begin_at-target.true) c.plain_text-a.result c.plain_text-a.ensures (not-false _ c.if-not-a.false) c.plain_text-b.result c.plain_text-b.ensures (not-false _ c.if-not-b.false))
 
 pub plain_text-c-requires : goal.plain_text-c-requires
 plain_text-c-requires c =
@@ -40,7 +39,7 @@ plain_text-c-requires c =
 pub returns : goal.returns
 returns c =
     third_plain (of_proof (texts (goal.at.returns c).After-plain_text-a)) c.plain_text-c.result c.plain_text-c.ensures
-    ∙ sym (second_open (texts (goal.at.returns c).After-plain_text-a) (of_proof (texts (goal.at.returns c).After-plain_text-a)) (items_with (texts (goal.at.returns c).After-plain_text-a) c.begin_at.ensures c.if-begin_at-target.false) c.plain_text-a.result c.plain_text-a.ensures c.if-not-a.false c.plain_text-b.result c.plain_text-b.ensures c.if-not-b.false)
+    ∙ sym (second_open (texts (goal.at.returns c).After-plain_text-a) (of_proof (texts (goal.at.returns c).After-plain_text-a)) (items_with (texts (goal.at.returns c).After-plain_text-a) c.begin_at.ensures c.if-begin_at-target.false) c.plain_text-a.result c.plain_text-a.ensures (not-false _ c.if-not-a.false) c.plain_text-b.result c.plain_text-b.ensures (not-false _ c.if-not-b.false))
 
 pub shape_of-room-then-not-a : goal.shape_of-room-then-not-a
 shape_of-room-then-not-a c = c.plain_text-a.auto.room

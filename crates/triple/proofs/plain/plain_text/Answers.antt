@@ -1,16 +1,15 @@
 use mathlib.Core.Path.{◌≡◌, refl, sym, ap, ap₂, ◌∙◌}
 use mathlib.Core.List.{List, ◌∷◌, ◌++◌}
-use Prim.Native.Nat.{ℕ, ◌+◌, ◌-◌}
+use Prim.Native.Nat.{ℕ, ◌+◌}
 use native.Mathlib.Omega.{arith}
-use lib.ListN.{length, drop}
-use borrow.Author.Rules.{rules}
+use lib.ListN.{drop}
 use Rattle.paper.specs.Grammar.{Line}
 use Rattle.paper.specs.Published.{pieces, NamedItem, read_by}
 use Rattle.steps.proofs.Calling.{ready_reads}
 use Rattle.published.specs.Statements.{reader_of, kind_behind, items_of}
 use Rattle.triple.specs.Courses.{all_plain}
 use Rattle.triple.proofs.Plainly.{closed_plain, open_plain}
-use Rattle.triple.proofs.Underway.{AtPiece, at_piece, piece_at, items_first, items_end}
+use Rattle.triple.proofs.Underway.{at_piece, piece_at, items_first, items_end}
 use Rattle.triple.proofs.Passing.{holding_none}
 use Rattle.triple.proofs.plain.plain_text.Goals as goal
 use Rattle.triple.proofs.plain.plain_text.Goals.{After-read_statement-line}
@@ -36,15 +35,14 @@ read_statement-line-requires c =
 
 -- the items before, with that which was read
 head : (d : After-read_statement-line) (rest : List NamedItem)
-    → all_plain (items_of (start (begins (found d))).args.kind (pieces (start (begins (found d))).args.text.now) ++ rest)
-    ≡ all_plain ((read_by (reader_of (begins (found d)).loop.next) (piece_at (start (begins (found d))).args.text.now (begins (found d)).loop.at (found d).find-byte.result) ∷ items_of (kind_behind (begins (found d)).loop.next) (pieces (drop ((found d).find-byte.result + 1) (start (begins (found d))).args.text.now))) ++ rest)
+    → all_plain (items_of d.args.kind (pieces d.args.text.now) ++ rest)
+    ≡ all_plain ((read_by (reader_of d.loop-at.next) (piece_at d.args.text.now d.loop-at.at d.find_byte-e.result) ∷ items_of (kind_behind d.loop-at.next) (pieces (drop (d.find_byte-e.result + 1) d.args.text.now))) ++ rest)
 head d rest =
-    let f = found d in
-    let l = (begins f).loop in
-    l.inv.0 rest ∙ ap (λ (is : List NamedItem). all_plain (is ++ rest)) (items_first l.next f.before.loop-test.taken l.inv.1 f.find-byte.ensures)
+    d.loop-at.invariant.0 rest
+    ∙ ap (λ (is : List NamedItem). all_plain (is ++ rest)) (items_first d.loop-at.next d.loop-at-test.true d.loop-at.invariant.1 d.find_byte-e.ensures)
 
 pub returns-then-line-is_unreadable : goal.returns-then-line-is_unreadable
-returns-then-line-is_unreadable c = λ rest. head c.before.before.before.before.before.before.before.before.before.before rest ∙ closed_plain _ c.read_statement-line.ensures.tells c.is_unreadable.ensures c.if-line-is_unreadable.true
+returns-then-line-is_unreadable c = λ rest. head (goal.at.returns-then-line-is_unreadable c).After-read_statement-line rest ∙ closed_plain _ c.read_statement-line.ensures.tells c.is_unreadable.ensures c.if-line-is_unreadable.true
 
 pub overflow_add-e : goal.overflow_add-e
 overflow_add-e c =
@@ -52,16 +50,15 @@ overflow_add-e c =
 
 pub loop-at-smaller : goal.loop-at-smaller
 loop-at-smaller c =
-    let o = c.begin_at-at-in-loop-at.ensures.onward c.loop-at.at (omega arith) c.loop-at-test.taken in
+    let o = c.begin_at-at-in-loop-at.ensures.onward c.loop-at.at (omega arith) c.loop-at-test.true in
     omega arith
 
 pub loop-at-preserved : goal.loop-at-preserved
 loop-at-preserved c =
     let l = c.loop-at in
-    let t = c.args.text.now in
-    (
-      λ rest. head c.before.before.before.before.before.before.before.before.before.before.before rest ∙ open_plain _ c.read_statement-line.ensures.tells c.is_unreadable.ensures c.if-line-is_unreadable.false
-          ∙ ap₂ (λ (c.read_statement-line.auto : ℕ) (ls : List Line). all_plain (items_of c.read_statement-line.auto ls ++ rest)) (sym c.kind_behind-next.ensures) c.begin_at-at-in-loop-at.ensures.same,
+    let t = c.args.text.now in (
+      λ rest. head (goal.at.loop-at-preserved c).After-read_statement-line rest ∙ open_plain _ c.read_statement-line.ensures.tells c.is_unreadable.ensures c.if-line-is_unreadable.false
+          ∙ ap₂ (λ (k : ℕ) (ls : List Line). all_plain (items_of k ls ++ rest)) (sym c.kind_behind-next.ensures) c.begin_at-at-in-loop-at.ensures.same,
       at_piece c.begin_at-at-in-loop-at.ensures,
       c.read_statement-line.auto.room ∙ l.invariant.2,
       c.read_statement-line.auto.hints ∙ l.invariant.3,

@@ -1,19 +1,13 @@
 -- `triple::plain::plain_text` meets its contract. The loop's invariant: the names of the statements from at on, and of whatever follows them, are plain as all
 -- of them are, and the rooms are as long as they were. The measure is what is left of the text. Assumes nothing.
-use mathlib.Core.Path.{◌≡◌, refl, sym, ap, ap₂, ◌∙◌}
-use mathlib.Core.List.{List, ◌∷◌, ◌++◌}
-use Prim.Native.Nat.{ℕ, ◌+◌, ◌-◌}
-use native.Mathlib.Omega.{arith}
+use mathlib.Core.Path.{◌≡◌}
+use mathlib.Core.List.{List, ◌++◌}
+use Prim.Native.Nat.{◌-◌}
 use lib.ListN.{length, drop}
-use borrow.Author.Rules.{rules}
-use Rattle.paper.specs.Grammar.{Line}
-use Rattle.paper.specs.Published.{pieces, NamedItem, read_by}
-use Rattle.steps.proofs.Calling.{ready_reads}
-use Rattle.published.specs.Statements.{reader_of, kind_behind, items_of}
+use Rattle.paper.specs.Published.{pieces, NamedItem}
+use Rattle.published.specs.Statements.{items_of}
 use Rattle.triple.specs.Courses.{all_plain}
-use Rattle.triple.proofs.Plainly.{closed_plain, open_plain}
-use Rattle.triple.proofs.Underway.{AtPiece, at_piece, piece_at, items_first, items_end}
-use Rattle.triple.proofs.Passing.{holding_none}
+use Rattle.triple.proofs.Underway.{AtPiece}
 use Rattle.triple.proofs.plain.plain_text.Given as goal
 
 abbrev pub invariant-loop-at : goal.invariant-loop-at
