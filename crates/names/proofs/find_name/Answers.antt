@@ -1,7 +1,5 @@
-use Prim.Native.Nat.{◌-◌, ◌≤◌}
 use native.Mathlib.Omega.{arith}
-use borrow.Author.Rules.{rules}
-use Rattle.names.proofs.Rooms.{NotBefore, found, passed_more, passed_all}
+use Rattle.names.proofs.Rooms.{found, passed_more, passed_all}
 use Rattle.names.proofs.find_name.Goals as goal
 
 pub is_name-requires : goal.is_name-requires

@@ -1,8 +1,4 @@
-use Prim.Native.Nat.{◌≤◌, ◌<◌, ◌-◌}
 use native.Mathlib.Omega.{arith}
-use lib.ListN.{length}
-use borrow.Author.Rules.{rules}
-use Rattle.names.specs.Names.{hint_count}
 use Rattle.names.proofs.hint_of.Goals as goal
 
 pub overflow_cast-h : goal.overflow_cast-h

@@ -1,8 +1,6 @@
 -- `names::hint_of` meets its contract: a hint's place is a rest. The measure is what is left of the name. Assumes nothing.
 use Prim.Native.Nat.{◌≤◌, ◌<◌, ◌-◌}
-use native.Mathlib.Omega.{arith}
 use lib.ListN.{length}
-use borrow.Author.Rules.{rules}
 use Rattle.names.specs.Names.{hint_count}
 use Rattle.names.proofs.hint_of.Given as goal
 

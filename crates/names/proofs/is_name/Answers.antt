@@ -1,9 +1,7 @@
-use mathlib.Core.Path.{◌≡◌, refl}
-use Prim.Native.Nat.{◌+◌, ◌-◌, ◌*◌, ◌≤◌}
+use mathlib.Core.Path.{refl}
+use Prim.Native.Nat.{◌+◌, ◌*◌}
 use native.Mathlib.Omega.{arith}
-use lib.ListN.{length, take, get_or}
-use borrow.Author.Rules.{rules}
-use Rattle.words.specs.Parts.{part}
+use lib.ListN.{get_or}
 use Rattle.names.specs.Names.{slot_bytes}
 use Rattle.names.proofs.Comparing.{other_length, other_byte, same_bytes, byte_more}
 use Rattle.names.proofs.is_name.Goals as goal

@@ -1,12 +1,8 @@
 -- `names::is_name` meets its contract. The loop's invariant: the first j bytes are the same. The measure is what is left of s. Assumes nothing.
-use mathlib.Core.Path.{◌≡◌, refl}
-use Prim.Native.Nat.{◌+◌, ◌-◌, ◌*◌, ◌≤◌}
-use native.Mathlib.Omega.{arith}
-use lib.ListN.{length, take, get_or}
-use borrow.Author.Rules.{rules}
+use mathlib.Core.Path.{◌≡◌}
+use Prim.Native.Nat.{◌+◌, ◌-◌, ◌≤◌}
+use lib.ListN.{length, take}
 use Rattle.words.specs.Parts.{part}
-use Rattle.names.specs.Names.{slot_bytes}
-use Rattle.names.proofs.Comparing.{other_length, other_byte, same_bytes, byte_more}
 use Rattle.names.proofs.is_name.Given as goal
 
 abbrev pub invariant-loop-j : goal.invariant-loop-j

@@ -4,7 +4,6 @@ use mathlib.Core.Bool.{false}
 use Prim.Native.Nat.{◌<◌}
 use native.Mathlib.Omega.{arith}
 use lib.ListN.{get_or}
-use borrow.Author.Rules.{rules}
 use Rattle.limits.specs.Limits.{variables}
 use Rattle.names.specs.Names.{held}
 use Rattle.names.proofs.Rooms.{place_most, alone_at}

@@ -1,7 +1,5 @@
 -- `names::number_name` meets its contract: a name by its place, or a plain name. No loop. Assumes nothing.
 use mathlib.Core.Bool.{true}
-use borrow.Author.Rules.{rules}
-use borrow.Author.Tests.{not-true, not-false}
 use Rattle.names.specs.Names.{held}
 use Rattle.names.proofs.Numbering.{numbered_bad, bad_plain, numbered_plain}
 use Rattle.names.proofs.number_name.Goals as goal

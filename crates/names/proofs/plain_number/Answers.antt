@@ -1,6 +1,5 @@
 -- `names::plain_number` meets its contract: the decimal behind the x is in the range of variables and ends the name, or the name is not plain. No loop.
 -- Assumes nothing.
-use borrow.Author.Rules.{rules}
 use Rattle.names.proofs.PlainNames.{behind_inside, plain_read, plain_refused}
 use Rattle.names.proofs.plain_number.Goals as goal
 

@@ -1,9 +1,7 @@
-use mathlib.Core.Path.{◌≡◌}
-use Prim.Native.Nat.{◌+◌, ◌-◌, ◌*◌, ◌≤◌}
+use Prim.Native.Nat.{◌+◌, ◌*◌}
 use native.Mathlib.Omega.{arith}
 use lib.ListN.{length, set}
-use lib.Seq.{paste, paste-zero}
-use borrow.Author.Rules.{rules}
+use lib.Seq.{paste-zero}
 use Rattle.names.specs.Names.{slot_bytes}
 use Rattle.names.proofs.Rooms.{put_more, put_all, put_same}
 use Rattle.names.proofs.put_name.Goals as goal

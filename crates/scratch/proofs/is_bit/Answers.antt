@@ -1,6 +1,5 @@
 -- `scratch::is_bit` meets its contract: the square is reduced and compared with the run that it is the square of. No loop. Assumes nothing.
 use native.Mathlib.Omega.{arith}
-use borrow.Author.Rules.{rules}
 use Rattle.words.proofs.Parts.{within_trans}
 use Rattle.scratch.proofs.Squares.{side, square_equal}
 use Rattle.scratch.proofs.is_bit.Goals as goal

@@ -1,6 +1,5 @@
 -- `scratch::is_goal` meets its contract: the two runs are compared. No loop. Assumes nothing.
 use mathlib.Core.Path.{◌∙◌}
-use borrow.Author.Rules.{rules}
 use Rattle.scratch.specs.Scratch.{stated_at, goal_at}
 use Rattle.scratch.proofs.Goals.{rests_equal}
 use Rattle.scratch.proofs.is_goal.Goals as goal

@@ -5,8 +5,7 @@ use lib.ListN.{length, get_or}
 use borrow.Author.Rules.{rules}
 use Rattle.words.proofs.Parts.{length_part}
 use Rattle.limits.specs.Limits.{term_words}
-use Rattle.terms.specs.Terms.{decode}
-use Rattle.scratch.proofs.Goals.{NoneIs, none_start, none_more, one_is, none_end, rest_equal, stored_words}
+use Rattle.scratch.proofs.Goals.{none_start, none_more, one_is, none_end, rest_equal, stored_words}
 use Rattle.scratch.proofs.is_stored.Goals as goal
 use Rattle.scratch.proofs.is_stored.Goals.{In-loop-j}
 

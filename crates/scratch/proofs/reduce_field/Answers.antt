@@ -1,6 +1,5 @@
 -- `scratch::reduce_field` meets its contract: the region is reduced, then its variables are gathered. No loop. Assumes nothing.
 use native.Mathlib.Omega.{arith}
-use borrow.Author.Rules.{rules}
 use Rattle.scratch.proofs.Reducing.{region_room, reduced_room, reduced_field}
 use Rattle.scratch.proofs.reduce_field.Goals as goal
 

@@ -3,7 +3,6 @@
 use mathlib.Core.Path.{ap, ◌∙◌}
 use Prim.Native.Nat.{ℕ}
 use lib.ListN.{replicate}
-use borrow.Author.Rules.{rules}
 use Rattle.speller.proofs.Giving.{spells_short, spells_long, spells_read}
 use Rattle.speller.proofs.spell.Goals as goal
 

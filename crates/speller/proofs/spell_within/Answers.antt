@@ -3,7 +3,6 @@
 use mathlib.Core.Path.{sym}
 use native.Mathlib.Omega.{arith}
 use lib.ListN.{length}
-use borrow.Author.Rules.{rules}
 use Rattle.paper.proofs.Ranges.{ring_some, ring_most}
 use Rattle.speller.specs.Spells.{FieldJudged}
 use Rattle.written.proofs.Meaning.{holds_few}

@@ -2,8 +2,7 @@
 -- Assumes nothing.
 use mathlib.Core.Path.{sym, ◌∙◌}
 use native.Mathlib.Omega.{arith}
-use borrow.Author.Rules.{rules}
-use borrow.Author.Tests.{leb-true, not-true, not-false}
+use borrow.Author.Tests.{leb-true}
 use lib.ListN.{length}
 use Rattle.speller.proofs.Giving.{leaves_cut, gives_same, gives_full, gives_written}
 use Rattle.speller.proofs.write_reduced.Goals as goal

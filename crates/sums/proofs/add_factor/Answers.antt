@@ -7,7 +7,6 @@ use Rattle.table.proofs.Laws.{found_at, found_nothing}
 use Rattle.scratch.proofs.Keeping.{kept_refl, kept_trans, kept_factor}
 use Rattle.sums.proofs.Adding.{place_lies}
 use Rattle.sums.proofs.Summing.{factor_missing, factor_stopped, factor_added}
-use borrow.Author.Rules.{rules}
 use Rattle.sums.proofs.add_factor.Goals as goal
 use Rattle.sums.proofs.add_factor.Goals.{After-struct_known-1}
 

@@ -5,7 +5,6 @@ use native.Mathlib.Omega.{arith}
 use lib.ListN.{get_or}
 use Rattle.limits.specs.Limits.{term_words}
 use Rattle.sums.proofs.Adding.{rows_few, extended_over, extended_all}
-use borrow.Author.Rules.{rules}
 use Rattle.sums.proofs.add_products.Goals as goal
 use Rattle.sums.proofs.add_products.Goals.{Start}
 

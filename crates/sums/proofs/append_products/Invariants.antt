@@ -1,14 +1,9 @@
 -- `sums::append_products` meets its contract. The loop's invariant: the products of the first i terms of the factor are appended.
 -- The measure is how many terms are left. Assumes nothing.
-use mathlib.Core.Path.{◌≡◌, sym, subst}
-use Prim.Native.Nat.{ℕ, ◌≤◌, ◌+◌, ◌-◌, ◌*◌}
-use native.Mathlib.Omega.{arith}
-use borrow.Author.Rules.{rules}
-use lib.ListN.{length, take}
-use lib.Seq.{length-take-le}
-use Rattle.ground.proofs.Numbers.{row_more, row_fits}
-use Rattle.scratch.specs.Scratch.{stated_at, factor_at}
-use Rattle.sums.proofs.Multiplying.{ProductRows, rows_start, rows_more}
+use mathlib.Core.Path.{◌≡◌}
+use Prim.Native.Nat.{◌≤◌, ◌+◌, ◌-◌, ◌*◌}
+use Rattle.scratch.specs.Scratch.{factor_at}
+use Rattle.sums.proofs.Multiplying.{ProductRows}
 use Rattle.sums.proofs.append_products.Given as goal
 
 abbrev pub invariant-loop-i : goal.invariant-loop-i

@@ -1,11 +1,9 @@
 use mathlib.Core.Path.{◌≡◌, refl, sym}
-use Prim.Native.Nat.{◌+◌, ◌-◌, ◌≤◌, ◌<◌}
+use Prim.Native.Nat.{◌+◌, ◌<◌}
 use native.Mathlib.Nat.{sub-zero}
 use native.Mathlib.Omega.{arith}
 use lib.ListN.{length}
 use borrow.Author.Rules.{rules}
-use Rattle.limits.specs.Limits.{stored_polynomials}
-use Rattle.table.specs.Columns.{Closed}
 use Rattle.table.proofs.Moving.{closed_none, closed_more}
 use Rattle.table.proofs.close_counts.Goals as goal
 

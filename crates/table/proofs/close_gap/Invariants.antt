@@ -2,11 +2,8 @@
 -- The measure is the count of words left. Assumes nothing.
 use mathlib.Core.Path.{◌≡◌}
 use Prim.Native.Nat.{◌+◌, ◌-◌, ◌≤◌}
-use native.Mathlib.Omega.{arith}
 use lib.ListN.{length, drop}
-use lib.Seq.{paste, paste-zero}
-use borrow.Author.Rules.{rules}
-use Rattle.table.proofs.Moving.{moved_more}
+use lib.Seq.{paste}
 use Rattle.table.proofs.close_gap.Given as goal
 
 abbrev pub invariant-loop-i : goal.invariant-loop-i

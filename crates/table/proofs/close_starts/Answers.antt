@@ -1,10 +1,8 @@
 use mathlib.Core.Path.{◌≡◌, refl}
-use Prim.Native.Nat.{ℕ, ◌+◌, ◌-◌, ◌≤◌, ◌<◌}
+use Prim.Native.Nat.{ℕ, ◌+◌, ◌<◌}
 use native.Mathlib.Omega.{arith}
 use lib.ListN.{length}
 use borrow.Author.Rules.{rules}
-use Rattle.limits.specs.Limits.{stored_polynomials}
-use Rattle.table.specs.Columns.{Closed}
 use Rattle.table.proofs.Moving.{closed_none, closed_more}
 use Rattle.table.proofs.close_starts.Goals as goal
 

@@ -1,9 +1,6 @@
 use mathlib.Core.Path.{◌≡◌}
-use Prim.Native.Nat.{◌≤◌, ◌-◌}
 use native.Mathlib.Omega.{arith}
 use borrow.Author.Count.{below_more}
-use borrow.Author.Rules.{rules}
-use Rattle.table.specs.Columns.{Absent}
 use Rattle.table.proofs.find.Goals as goal
 
 pub returns-then-column-j : goal.returns-then-column-j

@@ -1,10 +1,7 @@
 use mathlib.Core.Path.{sym, ◌∙◌}
-use Prim.Native.Nat.{◌≤◌, ◌-◌}
 use native.Mathlib.Omega.{arith}
 use borrow.Author.Count.{below_none}
-use borrow.Author.Rules.{rules}
 use Rattle.words.proofs.Eight.{below_eight}
-use Rattle.table.specs.Columns.{Absent}
 use Rattle.table.proofs.skip.Goals as goal
 
 pub loop-j-init : goal.loop-j-init

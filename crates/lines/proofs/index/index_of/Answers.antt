@@ -1,6 +1,5 @@
 -- `lines::index::index_of` meets its contract: the first byte settles the kind. No loop. Assumes nothing.
 use native.Mathlib.Omega.{arith}
-use borrow.Author.Rules.{rules}
 use Rattle.paper.specs.Grammar.{bytes}
 use Rattle.lines.proofs.Indexing.{index_input, index_lin, index_del, index_ext, no_index, none_read}
 use Rattle.lines.proofs.index.index_of.Goals as goal

@@ -1,6 +1,5 @@
 -- `lines::index::refused_index` meets its contract: the index counts from TERMS on. No loop. Assumes nothing.
 use mathlib.Core.Path.{sym}
-use borrow.Author.Rules.{rules}
 use Rattle.paper.specs.Grammar as paper
 use Rattle.steps.proofs.Judging.{early_none}
 use Rattle.lines.proofs.Indexing.{reported}

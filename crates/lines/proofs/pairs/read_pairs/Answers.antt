@@ -4,13 +4,9 @@ use mathlib.Core.Logic.{inl, inr}
 use Prim.Native.Nat.{◌-◌, ◌<◌}
 use native.Mathlib.Omega.{arith}
 use lib.ListN.{length}
-use borrow.Author.Tests.{not-true, not-false}
-use borrow.Author.Rules.{rules}
-use Rattle.table.specs.Table.{store_of_columns}
-use Rattle.scratch.specs.Scratch.{Kept}
 use Rattle.scratch.proofs.Keeping.{kept_refl, kept_trans, kept_factor}
 use Rattle.lines.proofs.Parts.{part_stuck, part_took, tabbed, tab_inside}
-use Rattle.lines.proofs.Walking.{pairs_untabbed, PairsTo, pairs_none, pairs_stuck, pairs_turned, pairs_ask, pairs_more, pairs_took}
+use Rattle.lines.proofs.Walking.{pairs_untabbed, pairs_none, pairs_stuck, pairs_turned, pairs_ask, pairs_more, pairs_took}
 use Rattle.lines.proofs.pairs.read_pairs.Goals as goal
 use Rattle.lines.proofs.pairs.read_pairs.Goals.{Else-not-tab_at, Else-q-eq-FORM, In-loop-scratch}
 

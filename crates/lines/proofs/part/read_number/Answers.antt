@@ -2,7 +2,6 @@
 -- Assumes nothing.
 use mathlib.Core.Path.{refl}
 use native.Mathlib.Omega.{arith}
-use borrow.Author.Rules.{rules}
 use Rattle.paper.specs.Grammar.{decimal}
 use Rattle.reader.specs.Numbers.{InRange}
 use Rattle.reader.proofs.Numbers.{number_got, number_not}

@@ -1,6 +1,5 @@
 -- `lines::part::read_pair` meets its contract: an index and a factor in a row. No loop. Assumes nothing.
 use native.Mathlib.Omega.{arith}
-use borrow.Author.Rules.{rules}
 use Rattle.words.proofs.Parts.{within_refl}
 use Rattle.lines.proofs.Parts.{part_took}
 use Rattle.lines.proofs.Regions.{pair_stops, index_stuck, factor_stuck, pair_took}

@@ -3,8 +3,6 @@ use mathlib.Core.Path.{refl, sym, ◌∙◌}
 use mathlib.Core.Logic.{inl}
 use Prim.Native.Nat.{◌+◌, ◌-◌, ◌*◌}
 use native.Mathlib.Omega.{arith}
-use borrow.Author.Tests.{not-true, not-false}
-use borrow.Author.Rules.{rules}
 use Rattle.limits.specs.Limits.{field_terms, term_words}
 use Rattle.words.proofs.Parts.{within_refl, length_part}
 use Rattle.lines.proofs.Parts.{tab_inside}

@@ -2,8 +2,6 @@
 use mathlib.Core.Path.{refl, sym, ◌∙◌}
 use mathlib.Core.Logic.{inl}
 use native.Mathlib.Omega.{arith}
-use borrow.Author.Tests.{not-true, not-false}
-use borrow.Author.Rules.{rules}
 use Rattle.lines.proofs.Parts.{tab_inside, number_tabbed, number_untabbed}
 use Rattle.lines.proofs.part.tab_number.Goals as goal
 

@@ -1,5 +1,4 @@
 -- `lines::read::read_del` meets its contract: a keyword and a number in a row. No loop. Assumes nothing.
-use borrow.Author.Rules.{rules}
 use Rattle.words.proofs.Parts.{within_refl}
 use Rattle.paper.specs.Grammar.{bytes, number}
 use Rattle.lines.proofs.Parts.{part_took}

@@ -1,7 +1,6 @@
 -- `lines::read::read_ended` meets its contract: the first byte settles the kind. No loop. Assumes nothing.
 use mathlib.Core.Path.{refl}
 use native.Mathlib.Omega.{arith}
-use borrow.Author.Rules.{rules}
 use Rattle.paper.specs.Grammar.{bytes, kinds, begins_alike, one_of, ring_line, input_line, goal_line, lin_line, del_line, ext_line}
 use Rattle.lines.proofs.LineKinds.{said_so, kind_line, no_line, empty_line}
 use Rattle.lines.proofs.read.read_ended.Goals as goal

@@ -1,7 +1,6 @@
 -- `lines::read::read_goal` meets its contract: a keyword and a polynomial in a row. No loop. Assumes nothing.
 use mathlib.Core.Path.{refl}
 use native.Mathlib.Omega.{arith}
-use borrow.Author.Rules.{rules}
 use Rattle.words.proofs.Parts.{within_refl}
 use Rattle.paper.specs.Grammar.{bytes, literal, field, goal_line}
 use Rattle.reader.proofs.Following.{fails_first, fails_then}

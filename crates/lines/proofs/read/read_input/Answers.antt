@@ -1,6 +1,5 @@
 -- `lines::read::read_input` meets its contract: a keyword, an index and a polynomial in a row. No loop. Assumes nothing.
 use native.Mathlib.Omega.{arith}
-use borrow.Author.Rules.{rules}
 use Rattle.words.proofs.Parts.{within_refl}
 use Rattle.paper.specs.Grammar.{bytes, number, field}
 use Rattle.reader.proofs.Following.{fails_first}

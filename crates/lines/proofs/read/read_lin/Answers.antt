@@ -1,6 +1,5 @@
 -- `lines::read::read_lin` meets its contract: a keyword, an index, a polynomial and pairs in a row. No loop. Assumes nothing.
 use native.Mathlib.Omega.{arith}
-use borrow.Author.Rules.{rules}
 use Rattle.words.proofs.Parts.{within_refl}
 use Rattle.paper.specs.Grammar.{bytes, number, field, pairs}
 use Rattle.reader.proofs.Following.{fails_first, fails_then}

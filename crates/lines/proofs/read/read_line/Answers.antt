@@ -1,6 +1,4 @@
 -- `lines::read::read_line` meets its contract: too long, without byte 10, or read. No loop. Assumes nothing.
-use borrow.Author.Tests.{not-true, not-false}
-use borrow.Author.Rules.{rules}
 use Rattle.lines.proofs.LineKinds.{long_line, ended_line, unended_line}
 use Rattle.lines.proofs.read.read_line.Goals as goal
 

@@ -1,7 +1,6 @@
 -- `reader::field::extra_term` meets its contract, by the count. No loop. Assumes nothing.
 use mathlib.Core.Path.{sym}
 use borrow.Author.Tests.{eq-eqb, ne_eqb}
-use borrow.Author.Rules.{rules}
 use Rattle.ground.proofs.Tests.{cond_yes, cond_no}
 use Rattle.limits.specs.Limits.{field_terms}
 use Rattle.reader.proofs.field.extra_term.Goals as goal

@@ -1,7 +1,5 @@
 -- `reader::field::read_field` meets its contract: a first term and those behind it, or the field `0`. No loop. Assumes nothing.
-use mathlib.Core.Logic.{⊎_elim}
 use native.Mathlib.Omega.{arith}
-use borrow.Author.Rules.{rules}
 use Rattle.reader.proofs.Fields.{part_took}
 use Rattle.reader.proofs.Polynomials.{field_stuck, rest_stuck, rest_inside, field_zero, field_terms_law}
 use Rattle.reader.proofs.field.read_field.Goals as goal

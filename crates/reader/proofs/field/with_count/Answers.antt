@@ -1,7 +1,6 @@
 -- `reader::field::with_count` meets its contract, by the count. No loop. Assumes nothing.
 use mathlib.Core.Path.{sym, ap, ◌∙◌}
 use borrow.Author.Tests.{lt-ltb, le-ltb}
-use borrow.Author.Rules.{rules}
 use Rattle.ground.proofs.Tests.{cond_yes, cond_no}
 use Rattle.limits.specs.Limits.{field_terms}
 use Rattle.limits.specs.Verdicts.{ACCEPTED, TERMS}

@@ -1,8 +1,4 @@
-use Prim.Native.Nat.{◌-◌}
 use native.Mathlib.Omega.{arith}
-use lib.ListN.{length}
-use borrow.Author.Rules.{rules}
-use Rattle.reader.specs.Search.{Without}
 use Rattle.reader.proofs.Search.{without_one}
 use Rattle.reader.proofs.find.find_byte.Goals as goal
 

@@ -1,9 +1,6 @@
 use mathlib.Core.Path.{sym, ◌∙◌}
-use Prim.Native.Nat.{◌-◌}
 use native.Mathlib.Omega.{arith}
-use lib.ListN.{length}
 use borrow.Author.Rules.{rules}
-use Rattle.reader.specs.Search.{Without}
 use Rattle.reader.proofs.Search.{without_none, without_eight}
 use Rattle.reader.proofs.find.skip.Goals as goal
 

@@ -1,9 +1,5 @@
-use mathlib.Core.Path.{◌≡◌, refl, ◌∙◌}
-use Prim.Native.Nat.{◌≤◌, ◌+◌, ◌-◌}
+use mathlib.Core.Path.{refl, ◌∙◌}
 use native.Mathlib.Omega.{arith}
-use lib.ListN.{length, drop}
-use borrow.Author.Rules.{rules}
-use Rattle.paper.specs.Grammar.{literal}
 use Rattle.reader.proofs.Keywords.{literal_more, literal_not, literal_short, literal_all}
 use Rattle.reader.proofs.keyword.word_at.Goals as goal
 

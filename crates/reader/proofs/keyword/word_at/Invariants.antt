@@ -1,12 +1,9 @@
 -- `reader::keyword::word_at` meets its contract. The loop's invariant: from at up to i the bytes are the first j of w.
 -- The measure is what is left of w. Assumes nothing.
-use mathlib.Core.Path.{◌≡◌, refl, ◌∙◌}
+use mathlib.Core.Path.{◌≡◌}
 use Prim.Native.Nat.{◌≤◌, ◌+◌, ◌-◌}
-use native.Mathlib.Omega.{arith}
 use lib.ListN.{length, drop}
-use borrow.Author.Rules.{rules}
 use Rattle.paper.specs.Grammar.{literal}
-use Rattle.reader.proofs.Keywords.{literal_more, literal_not, literal_short, literal_all}
 use Rattle.reader.proofs.keyword.word_at.Given as goal
 
 abbrev pub invariant-loop-j : goal.invariant-loop-j

@@ -6,7 +6,6 @@ use lib.ListN.{get_or}
 use Rattle.paper.specs.Grammar.{digits, decimal}
 use Rattle.paper.proofs.Pieces.{decimal_zero, decimal_first, decimal_low, decimal_high, decimal_end}
 use Rattle.reader.proofs.Numbers.{decimal_by}
-use borrow.Author.Rules.{rules}
 use Rattle.reader.proofs.number.decimal_at.Goals as goal
 
 pub returns-then-at-s : goal.returns-then-at-s

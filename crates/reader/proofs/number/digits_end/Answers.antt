@@ -1,9 +1,6 @@
-use Prim.Native.Nat.{◌≤◌, ◌-◌}
 use native.Mathlib.Omega.{arith}
-use lib.ListN.{length}
-use borrow.Author.Rules.{rules}
 use Rattle.paper.proofs.Pieces.{digits_low, digits_high, digits_end_law}
-use Rattle.reader.proofs.Numbers.{DigitsTo, digits_to_none, digits_to_more, digits_to_stop}
+use Rattle.reader.proofs.Numbers.{digits_to_none, digits_to_more, digits_to_stop}
 use Rattle.reader.proofs.number.digits_end.Goals as goal
 
 pub loop-i-init : goal.loop-i-init

@@ -1,10 +1,8 @@
-use mathlib.Core.Path.{◌≡◌, refl, sym, ◌∙◌}
-use Prim.Native.Nat.{◌≤◌, ◌<◌, ◌+◌, ◌-◌, ◌*◌, ◌^◌}
+use mathlib.Core.Path.{refl, sym, ◌∙◌}
+use Prim.Native.Nat.{◌<◌, ◌+◌, ◌-◌, ◌*◌, ◌^◌}
 use native.Mathlib.Omega.{arith}
-use lib.ListN.{length, drop, get_or}
-use borrow.Author.Rules.{rules}
+use lib.ListN.{get_or}
 use borrow.Author.Tests.{leb-false}
-use Rattle.paper.specs.Grammar.{digits}
 use Rattle.paper.proofs.Pieces.{digits_more, digits_low, digits_high, digits_end_law}
 use Rattle.reader.proofs.Numbers.{digits_large}
 use Rattle.reader.proofs.number.digits_from.Goals as goal

@@ -1,11 +1,10 @@
 -- `reader::number::number_at` meets its contract: a decimal is a number in its range, or is refused as it is. No loop.
 -- Assumes nothing.
 use mathlib.Core.Path.{refl}
-use mathlib.Core.Logic.{inl, ⊎_elim}
+use mathlib.Core.Logic.{inl}
 use native.Mathlib.Omega.{arith}
 use Rattle.paper.specs.Grammar.{decimal}
 use Rattle.reader.proofs.Numbers.{decimal_got, within_below, within_above, number_refused}
-use borrow.Author.Rules.{rules}
 use Rattle.reader.proofs.number.number_at.Goals as goal
 
 pub returns-in_default : goal.returns-in_default

@@ -2,7 +2,6 @@
 -- Assumes nothing.
 use mathlib.Core.Path.{sym, ap}
 use Rattle.reader.specs.Numbers.{outside_of}
-use borrow.Author.Rules.{rules}
 use Rattle.reader.proofs.number.outside.Goals as goal
 
 pub returns-in-Value : goal.returns-in-Value

@@ -1,6 +1,5 @@
 -- `reader::number::refused` meets its contract: each arm is a case of the definition. No loop. Assumes nothing.
 use mathlib.Core.Path.{sym, ap}
-use borrow.Author.Rules.{rules}
 use Rattle.reader.specs.Numbers.{refused_of}
 use Rattle.reader.proofs.number.refused.Goals as goal
 

@@ -3,7 +3,6 @@ use mathlib.Core.Path.{sym, ap, ◌∙◌}
 use mathlib.Core.Bool.{Bool, cond}
 use Prim.Native.Nat.{◌+◌}
 use native.Mathlib.Nat.{add-zero}
-use borrow.Author.Rules.{rules}
 use Rattle.reader.proofs.term.behind_sign.Goals as goal
 
 pub returns-then-negative : goal.returns-then-negative

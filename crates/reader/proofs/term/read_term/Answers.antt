@@ -1,5 +1,4 @@
 -- `reader::term::read_term` meets its contract: a magnitude with its sign, and the variables behind it. No loop. Assumes nothing.
-use borrow.Author.Rules.{rules}
 use Rattle.reader.proofs.Fields.{term_stops, magnitude_stuck, magnitude_inside, names_stuck, term_took}
 use Rattle.reader.proofs.term.read_term.Goals as goal
 

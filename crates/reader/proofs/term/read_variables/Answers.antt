@@ -4,7 +4,6 @@ use mathlib.Core.Logic.{inl, inr}
 use Prim.Native.Nat.{◌+◌, ◌-◌}
 use Prim.Native.Char.{code}
 use native.Mathlib.Omega.{arith}
-use lib.ListN.{length}
 use borrow.Author.Rules.{rules}
 use Rattle.limits.specs.Limits.{variables}
 use Rattle.paper.specs.Grammar.{decimal}
@@ -13,7 +12,7 @@ use Rattle.reader.specs.Marks.{variable_marks}
 use Rattle.reader.specs.Fields.{stands_at}
 use Rattle.reader.proofs.Numbers.{number_got, number_not, RefusedAs, refused_onward}
 use Rattle.reader.proofs.Following.{passed_took}
-use Rattle.reader.proofs.Fields.{stands, each_over, VariablesTo, variables_none, variables_more, variables_out, variables_stuck}
+use Rattle.reader.proofs.Fields.{stands, each_over, variables_none, variables_more, variables_out, variables_stuck}
 use Rattle.reader.proofs.term.read_variables.Goals as goal
 use Rattle.reader.proofs.term.read_variables.Goals.{After-refused-r, In-Value, In-loop-n}
 

@@ -1,5 +1,4 @@
 -- `reader::term::signed` meets its contract, by the sign. No loop. Assumes nothing.
-use borrow.Author.Rules.{rules}
 use Rattle.reader.proofs.Fields.{signed_negative, signed_positive}
 use Rattle.reader.proofs.term.signed.Goals as goal
 

@@ -3,7 +3,6 @@ use Rattle.paper.specs.Rules.{stored}
 use Rattle.table.specs.Table.{store_of_columns}
 use Rattle.table.proofs.Laws.{found_at, found_nothing}
 use Rattle.steps.proofs.Admitting.{admit_misplaced, admit_taken, admit_free}
-use borrow.Author.Rules.{rules}
 use Rattle.steps.proofs.check.admit.Goals as goal
 
 pub returns-then-phase-place : goal.returns-then-phase-place

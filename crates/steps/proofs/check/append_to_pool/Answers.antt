@@ -9,7 +9,6 @@ use Rattle.words.proofs.Parts.{length_part, part_rest}
 use Rattle.limits.specs.Limits.{term_words}
 use Rattle.scratch.specs.Scratch.{stated_at}
 use Rattle.steps.proofs.Storing.{pool_refused, pool_many, pool_large, pool_takes}
-use borrow.Author.Rules.{rules}
 use Rattle.steps.proofs.check.append_to_pool.Goals as goal
 
 pub returns-then-v-ne-ACCEPTED : goal.returns-then-v-ne-ACCEPTED

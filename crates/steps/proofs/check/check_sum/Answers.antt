@@ -1,8 +1,6 @@
 -- `steps::check::check_sum` meets its contract: a sum that is refused, or compared with the stated polynomial. Assumes nothing.
 use native.Mathlib.Omega.{arith}
-use borrow.Author.Tests.{not-true, not-false}
 use Rattle.steps.proofs.Checking.{sum_refused, sum_differs, sum_matches}
-use borrow.Author.Rules.{rules}
 use Rattle.steps.proofs.check.check_sum.Goals as goal
 
 pub returns-then-sum-ne-ACCEPTED : goal.returns-then-sum-ne-ACCEPTED

@@ -2,11 +2,9 @@
 use Prim.Native.Nat.{◌*◌, ◌≤◌}
 use native.Mathlib.Omega.{arith}
 use native.Mathlib.Nat.{mul-le-mul}
-use borrow.Author.Tests.{not-true, not-false}
 use Rattle.limits.specs.Limits.{field_terms}
 use Rattle.scratch.proofs.Squares.{side}
 use Rattle.steps.proofs.Checking.{extends_seen, extends_many, extends_no_bit, extends_all}
-use borrow.Author.Rules.{rules}
 use Rattle.steps.proofs.check.extend.Goals as goal
 use Rattle.steps.proofs.check.extend.Goals.{After-reduce_field-p}
 

@@ -5,7 +5,6 @@ use lib.ListN.{drop}
 use Rattle.algebra.specs.Polynomial.{equal}
 use Rattle.terms.specs.Terms.{decode}
 use Rattle.scratch.specs.Scratch.{stated_at, goal_at}
-use borrow.Author.Rules.{rules}
 use Rattle.steps.proofs.check.reaches.Goals as goal
 
 pub returns : goal.returns

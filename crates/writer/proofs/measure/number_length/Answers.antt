@@ -1,7 +1,6 @@
-use Prim.Native.Nat.{◌-◌}
 use native.Mathlib.Omega.{arith}
 use borrow.Author.Rules.{rules}
-use Rattle.writer.proofs.Digits.{Counting, counting_start, counting_last, counting_fits, counting_more, counting_end}
+use Rattle.writer.proofs.Digits.{counting_start, counting_last, counting_fits, counting_more, counting_end}
 use Rattle.writer.proofs.measure.number_length.Goals as goal
 
 pub loop-limit-init : goal.loop-limit-init

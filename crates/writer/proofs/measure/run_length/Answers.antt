@@ -1,11 +1,9 @@
-use mathlib.Core.Path.{◌≡◌, ap, sym}
-use Prim.Native.Nat.{◌+◌, ◌-◌, ◌^◌, ◌≤◌, ◌<◌}
+use mathlib.Core.Path.{ap, sym}
+use Prim.Native.Nat.{◌+◌, ◌^◌, ◌<◌}
 use native.Mathlib.Omega.{arith}
-use borrow.Author.Rules.{rules}
 use lib.ListN.{length}
 use Rattle.terms.specs.Terms.{decode}
-use Rattle.paper.specs.Spelling.{spell}
-use Rattle.writer.proofs.Runs.{run_rest, run_none, run_length_first, run_length_more, run_end, cut_at, run_most, room_most}
+use Rattle.writer.proofs.Runs.{run_none, run_length_first, run_length_more, run_end, cut_at, run_most, room_most}
 use Rattle.writer.proofs.measure.run_length.Goals as goal
 use Rattle.writer.proofs.measure.run_length.Goals.{After-term_length}
 

@@ -1,13 +1,11 @@
 -- `writer::measure::run_length` meets its contract. The loop's invariant: the sum and the terms from the i-th on make up the run.
 -- The measure is the number of terms left. Assumes nothing.
-use mathlib.Core.Path.{◌≡◌, ap, sym}
-use Prim.Native.Nat.{◌+◌, ◌-◌, ◌^◌, ◌≤◌, ◌<◌}
-use native.Mathlib.Omega.{arith}
-use borrow.Author.Rules.{rules}
+use mathlib.Core.Path.{◌≡◌}
+use Prim.Native.Nat.{◌+◌, ◌-◌, ◌≤◌}
 use lib.ListN.{length}
 use Rattle.terms.specs.Terms.{decode}
 use Rattle.paper.specs.Spelling.{spell}
-use Rattle.writer.proofs.Runs.{run_rest, run_none, run_length_first, run_length_more, run_end, cut_at, run_most, room_most}
+use Rattle.writer.proofs.Runs.{run_rest}
 use Rattle.writer.proofs.measure.run_length.Given as goal
 
 abbrev pub invariant-loop-i : goal.invariant-loop-i

@@ -1,14 +1,10 @@
-use mathlib.Core.Path.{◌≡◌, ap, ◌∙◌}
-use Prim.Native.Nat.{ℕ, ◌+◌, ◌-◌, ◌≤◌}
+use mathlib.Core.Path.{ap, ◌∙◌}
+use Prim.Native.Nat.{ℕ}
 use native.Mathlib.Omega.{arith}
-use borrow.Author.Rules.{rules}
-use lib.ListN.{length, drop}
-use Rattle.ground.specs.Lists.{total}
+use lib.ListN.{length}
 use Rattle.limits.specs.Limits.{variables}
 use Rattle.algebra.specs.Polynomial.{members}
 use Rattle.words.specs.Words.{number_of}
-use Rattle.terms.specs.Terms.{decode}
-use Rattle.writer.specs.Writing.{term_room, room}
 use Rattle.writer.proofs.Runs.{room_start, room_more, room_end, room_most}
 use Rattle.writer.proofs.Pieces.{members_few}
 use Rattle.writer.proofs.measure.run_room.Goals as goal

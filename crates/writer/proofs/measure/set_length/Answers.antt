@@ -1,14 +1,9 @@
-use mathlib.Core.Path.{◌≡◌, ap}
-use Prim.Native.Nat.{◌+◌, ◌-◌, ◌≤◌}
+use mathlib.Core.Path.{ap}
 use native.Mathlib.Omega.{arith}
 use borrow.Author.Rules.{rules}
 use lib.ListN.{length}
-use Rattle.limits.specs.Limits.{set_words, variables}
-use Rattle.ground.specs.Lists.{gather}
-use Rattle.algebra.specs.Polynomial.{members}
 use Rattle.words.specs.Words.{number_of}
-use Rattle.writer.specs.Writing.{dotted}
-use Rattle.writer.proofs.Pieces.{set_rest, set_start, set_length_more, set_end, set_most}
+use Rattle.writer.proofs.Pieces.{set_start, set_length_more, set_end, set_most}
 use Rattle.writer.proofs.measure.set_length.Goals as goal
 
 pub loop-i-init : goal.loop-i-init

@@ -1,7 +1,6 @@
 -- `writer::measure::term_length` meets its contract: the coefficient, then the variables. No loop.
 -- Assumes nothing.
 use native.Mathlib.Omega.{arith}
-use borrow.Author.Rules.{rules}
 use Rattle.terms.specs.Terms.{term_of}
 use Rattle.writer.proofs.Runs.{term_coef, term_length_pieces, term_most, term_room_most}
 use Rattle.writer.proofs.measure.term_length.Goals as goal

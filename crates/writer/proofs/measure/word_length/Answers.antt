@@ -1,12 +1,8 @@
-use mathlib.Core.Path.{◌≡◌, ap}
+use mathlib.Core.Path.{ap}
 use Prim.Native.Nat.{◌+◌}
 use native.Mathlib.Omega.{arith}
-use borrow.Author.Rules.{rules}
 use lib.ListN.{length}
 use lib.Pow.{pow_pos}
-use Rattle.ground.specs.Lists.{gather}
-use Rattle.algebra.specs.Polynomial.{members}
-use Rattle.writer.specs.Writing.{dotted}
 use Rattle.writer.proofs.Digits.{word_digits}
 use Rattle.writer.proofs.Pieces.{word_length_more, word_end, word_most}
 use Rattle.writer.proofs.measure.word_length.Goals as goal

@@ -1,16 +1,11 @@
 -- `writer::measure::word_length` meets its contract. The loop's invariant: the sum and the variables left make up those of the word.
 -- The measure is the word left. Assumes nothing.
-use mathlib.Core.Path.{◌≡◌, ap}
+use mathlib.Core.Path.{◌≡◌}
 use Prim.Native.Nat.{◌+◌}
-use native.Mathlib.Omega.{arith}
-use borrow.Author.Rules.{rules}
 use lib.ListN.{length}
-use lib.Pow.{pow_pos}
 use Rattle.ground.specs.Lists.{gather}
 use Rattle.algebra.specs.Polynomial.{members}
 use Rattle.writer.specs.Writing.{dotted}
-use Rattle.writer.proofs.Digits.{word_digits}
-use Rattle.writer.proofs.Pieces.{word_length_more, word_end, word_most}
 use Rattle.writer.proofs.measure.word_length.Given as goal
 
 abbrev pub invariant-loop-left : goal.invariant-loop-left

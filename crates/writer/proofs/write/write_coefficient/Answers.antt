@@ -2,7 +2,6 @@
 -- Assumes nothing.
 use mathlib.Core.Path.{ap, ◌∙◌}
 use native.Mathlib.Omega.{arith}
-use borrow.Author.Rules.{rules}
 use lib.ListN.{length, length-set}
 use Rattle.writer.proofs.Written.{wrote_as, wrote_byte, wrote_both}
 use Rattle.writer.proofs.Signs.{signed_minus, signed_plus}

@@ -1,7 +1,6 @@
 use native.Mathlib.Omega.{arith}
-use borrow.Author.Rules.{rules}
 use Rattle.paper.proofs.Numbers.{number_some, number_least}
-use Rattle.writer.proofs.Digits.{Back, back_start, back_more, back_end}
+use Rattle.writer.proofs.Digits.{back_start, back_more, back_end}
 use Rattle.writer.proofs.write.write_number.Goals as goal
 
 pub overflow_sub-i : goal.overflow_sub-i

@@ -1,9 +1,8 @@
-use Prim.Native.Nat.{◌+◌, ◌-◌, ◌≤◌}
+use Prim.Native.Nat.{◌+◌}
 use native.Mathlib.Omega.{arith}
-use borrow.Author.Rules.{rules}
 use Rattle.terms.specs.Terms.{term_of}
 use Rattle.writer.specs.Writing.{spaced}
-use Rattle.writer.proofs.Written.{Left, left_start, left_more, left_room, left_end}
+use Rattle.writer.proofs.Written.{left_start, left_more, left_room, left_end}
 use Rattle.writer.proofs.Runs.{run_rest, run_more, run_end, cut_at}
 use Rattle.writer.proofs.write.write_rest.Goals as goal
 

@@ -2,7 +2,6 @@
 -- Assumes nothing.
 use mathlib.Core.Path.{sym, ap}
 use native.Mathlib.Omega.{arith}
-use borrow.Author.Rules.{rules}
 use lib.ListN.{length}
 use Rattle.writer.proofs.Written.{wrote_as, wrote_byte, wrote_both}
 use Rattle.writer.proofs.Runs.{run_none, run_first, run_length_first, cut_at}

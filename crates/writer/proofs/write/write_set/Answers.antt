@@ -1,13 +1,13 @@
-use Prim.Native.Nat.{◌+◌, ◌-◌, ◌*◌, ◌≤◌}
+use Prim.Native.Nat.{◌+◌, ◌*◌}
 use native.Mathlib.Omega.{arith}
 use borrow.Author.Rules.{rules}
 use lib.ListN.{get_or}
-use Rattle.limits.specs.Limits.{set_words, variables}
+use Rattle.limits.specs.Limits.{variables}
 use Rattle.ground.specs.Lists.{gather}
 use Rattle.algebra.specs.Polynomial.{members}
 use Rattle.words.specs.Words.{number_of}
 use Rattle.writer.specs.Writing.{dotted}
-use Rattle.writer.proofs.Written.{Left, left_start, left_as, left_more, left_room, left_end}
+use Rattle.writer.proofs.Written.{left_start, left_as, left_more, left_room, left_end}
 use Rattle.writer.proofs.Pieces.{set_rest, set_start, set_more, set_end}
 use Rattle.writer.proofs.write.write_set.Goals as goal
 

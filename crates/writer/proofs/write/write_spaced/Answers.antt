@@ -2,7 +2,6 @@
 -- Assumes nothing.
 use mathlib.Core.Path.{◌∙◌}
 use native.Mathlib.Omega.{arith}
-use borrow.Author.Rules.{rules}
 use lib.ListN.{length-set}
 use Rattle.writer.proofs.Written.{wrote_byte, wrote_both}
 use Rattle.writer.proofs.write.write_spaced.Goals as goal

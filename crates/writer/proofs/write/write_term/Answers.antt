@@ -2,7 +2,6 @@
 -- Assumes nothing.
 use mathlib.Core.Path.{sym}
 use native.Mathlib.Omega.{arith}
-use borrow.Author.Rules.{rules}
 use Rattle.writer.proofs.Written.{wrote_as, wrote_both}
 use Rattle.writer.proofs.Runs.{term_coef, term_pieces, term_length_pieces}
 use Rattle.writer.proofs.write.write_term.Goals as goal

@@ -1,11 +1,10 @@
 use Prim.Native.Nat.{◌+◌}
 use native.Mathlib.Omega.{arith}
-use borrow.Author.Rules.{rules}
 use lib.Pow.{pow_pos}
 use Rattle.ground.specs.Lists.{gather}
 use Rattle.algebra.specs.Polynomial.{members}
 use Rattle.writer.specs.Writing.{dotted}
-use Rattle.writer.proofs.Written.{Left, left_start, left_more, left_room, left_end}
+use Rattle.writer.proofs.Written.{left_start, left_more, left_room, left_end}
 use Rattle.writer.proofs.Pieces.{word_more, word_end}
 use Rattle.writer.proofs.write.write_word.Goals as goal
 

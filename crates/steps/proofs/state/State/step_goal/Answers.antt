@@ -1,7 +1,6 @@
 -- `steps::state::State::step_goal` meets its contract: the reduced polynomial is the goal, and is looked for in the store. Assumes nothing.
 use native.Mathlib.Omega.{arith}
 use Rattle.steps.proofs.Aiming.{goal_misplaced, goal_stands}
-use borrow.Author.Rules.{rules}
 use Rattle.steps.proofs.state.State.step_goal.Goals as goal
 
 pub returns-then-self-ne-INPUTS : goal.returns-then-self-ne-INPUTS

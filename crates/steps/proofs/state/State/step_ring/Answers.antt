@@ -1,6 +1,5 @@
 -- `steps::state::State::step_ring` meets its contract: the ring is that of the line, in its phase only. Assumes nothing.
 use Rattle.steps.proofs.Stepping.{ring_misplaced, ring_stands}
-use borrow.Author.Rules.{rules}
 use Rattle.steps.proofs.state.State.step_ring.Goals as goal
 
 pub returns-then-self-ne-OPENING : goal.returns-then-self-ne-OPENING
