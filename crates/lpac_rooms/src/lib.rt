@@ -1,4 +1,6 @@
 // Calls for tests and benchmarks: rooms of any size are lent from outside, and everything that is decided comes back.
+#![tactic(auto)]
+
 ghost use Rattle.std.specs.Prelude.{◌/◌, length};
 ghost use Rattle.limits.specs.Limits.{term_words};
 ghost use Rattle.algebra.specs.Polynomial.{reduce};
