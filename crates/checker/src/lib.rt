@@ -1,4 +1,7 @@
 // The checker: a text is judged line by line, and the lent rooms are zeroed.
+
+#![tactic(auto)]
+
 ghost use Rattle.std.specs.Prelude.{◌≡◌};
 ghost use Rattle.paper.specs.Answer as paper;
 ghost use Rattle.checker.specs.Checked.{Checked};

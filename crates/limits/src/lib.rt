@@ -1,5 +1,8 @@
 // The paper's numbers as the code has them; specs/Limits.antt and specs/Verdicts.antt define them.
 
+#![tactic(auto)]
+
+
 // ---- the width: a set of variables in 64-bit words, and a term, which is its set and then its coefficient
 pub const SET_WORDS: usize = 5;
 

@@ -1,4 +1,5 @@
 // The check program: a text from standard input is checked, and the six numbers of the answer are written, parted by tabs.
+
 #![tactic(auto)]
 
 ghost use Rattle.std.specs.Prelude.{◌<◌, length};

@@ -1,4 +1,5 @@
 // The host calls: a program in C or Rust lends a text, or three published ones, and gets the verdict and the line as one number.
+
 #![tactic(auto)]
 
 ghost use Rattle.std.specs.Prelude.{◌≡◌};
@@ -45,7 +46,7 @@ pub fn lpac_verdict(text: &[u8]) -> u64
 
 // The answer to three texts at k in room of the call's own. Longer texts than it takes are not read.
 pub fn published_answer(k: u64, constraints: &[u8], target: &[u8], proof: &[u8]) -> Answer
-    ensures { answer_of result ≡ published_host_answer k (record { constraints = constraints.entry.now; target = target.now; proof = proof.now }) }
+    ensures { answer_of result ≡ published_host_answer k (record { constraints = constraints.now; target = target.now; proof = proof.now }) }
 {
     if too_long(
         limits::HOST_TEXT_BYTES,
@@ -62,7 +63,7 @@ pub fn published_answer(k: u64, constraints: &[u8], target: &[u8], proof: &[u8])
 
 // The number of the answer to three texts at k.
 pub fn lpac_published_verdict(k: u64, constraints: &[u8], target: &[u8], proof: &[u8]) -> u64
-    ensures { PublishedHosted k (record { constraints = constraints.entry.now; target = target.now; proof = proof.now }) result }
+    ensures { PublishedHosted k (record { constraints = constraints.now; target = target.now; proof = proof.now }) result }
 {
     host_number(published_answer(k, constraints, target, proof))
 }

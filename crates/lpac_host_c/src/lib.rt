@@ -1,4 +1,5 @@
 // The host calls for C and Rust: a text is lent, or three published ones, and the verdict and the line come back as one number.
+
 #![tactic(auto)]
 
 ghost use Rattle.lpac_host.specs.Hosted.{Hosted, PublishedHosted};
@@ -19,7 +20,7 @@ pub extern "C" fn lpac_published_verdict(
     target: &[u8],
     proof: &[u8],
 ) -> u64
-    ensures { PublishedHosted k (record { constraints = constraints.entry.now; target = target.now; proof = proof.now }) result }
+    ensures { PublishedHosted k (record { constraints = constraints.now; target = target.now; proof = proof.now }) result }
 {
     lpac_host::lpac_published_verdict(k, constraints, target, proof)
 }

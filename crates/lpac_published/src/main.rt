@@ -1,5 +1,6 @@
 // The program for published texts, `lpac_published K CONSTRAINTS TARGET PROOF`: three files are checked at K, and the six numbers of the
 // answer are written, parted by tabs.
+
 #![tactic(auto)]
 
 ghost use Rattle.std.specs.Prelude.{◌≡◌, ◌<◌, length};

@@ -1,4 +1,5 @@
 // Calls for tests and benchmarks: rooms of any size are lent from outside, and everything that is decided comes back.
+
 #![tactic(auto)]
 
 ghost use Rattle.std.specs.Prelude.{◌/◌, length};

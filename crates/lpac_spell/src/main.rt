@@ -1,6 +1,7 @@
 // The spelling program: lines `k<tab>field` from standard input, and for each `verdict<tab>spelling` on standard output; nothing
 // stands behind the tab where the field is refused. A line of another shape is FORM, and an input above 65,536 bytes has the one
 // answer LONGTEXT.
+
 #![tactic(auto)]
 
 ghost use Rattle.std.specs.Prelude.{◌≡◌, ◌≤◌, ◌<◌, length};

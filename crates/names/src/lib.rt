@@ -1,4 +1,7 @@
 // Names of variables: held in a lent room, compared byte by byte, and numbered as they first appear; or plain names, which say their number.
+
+#![tactic(auto)]
+
 ghost use Rattle.std.specs.Prelude.{◌≡◌, true, false, ◌*◌, ◌≤◌, ◌<◌, length, get_or};
 ghost use Rattle.limits.specs.Limits.{name_bytes, variables};
 ghost use Rattle.paper.specs.Named.{same_name, place_in};

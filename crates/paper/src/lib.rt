@@ -1,1 +1,4 @@
 // No code: the rules of the paper as definitions.
+
+#![tactic(auto)]
+

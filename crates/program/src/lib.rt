@@ -1,4 +1,5 @@
 // What the programs share: a whole input read into a lent room, an answer's numbers written, and the status that a program ends with.
+
 #![tactic(auto)]
 
 ghost use Rattle.std.specs.Prelude.{◌≡◌, false, ◌<◌, length};

@@ -19,7 +19,7 @@ struct Rest {
 
 // A field: ACCEPTED or the first of FORM, NUMBER and TERMS that applies; where it ends or stops; how many terms it has; and the bytes, counted
 // from 1, of the first digit of the first number out of its range and of the beginning of the first term too many, 0 where there is none.
-#[derive(Drop)]
+#[derive(Clone, Copy)]
 pub struct FieldRead {
     pub why: u64,
     pub end: usize,

@@ -12,7 +12,7 @@ pub enum Decimal {
 }
 
 // A number in its range with its end, or the number of the refusal with the end of the decimal or the place where there is none.
-#[derive(Drop)]
+#[derive(Clone, Copy)]
 pub enum Number {
     Value(u64, usize),
     Refused(u64, usize),

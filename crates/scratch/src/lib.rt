@@ -1,4 +1,7 @@
 // The scratch in regions: the products of a line from word 0 on, then a stated polynomial or p, a factor, and the goal.
+
+#![tactic(auto)]
+
 ghost use Rattle.std.specs.Prelude.{◌≡◌, List, ℕ, ◌+◌, ◌*◌, ◌≤◌, ◌<◌, length, drop};
 ghost use Rattle.words.specs.Parts.{Within};
 ghost use Rattle.limits.specs.Limits.{field_terms, line_products, term_words, variables, least_scratch};

@@ -1,4 +1,7 @@
 // The spelling writer: a polynomial field in its one fixed spelling.
+
+#![tactic(auto)]
+
 ghost use Rattle.std.specs.Prelude.{◌≡◌, List, ℕ, ◌*◌, ◌≤◌, length};
 ghost use Rattle.limits.specs.Limits.{greatest_magnitude, field_terms, term_words, least_spelling_scratch};
 ghost use Rattle.algebra.specs.Polynomial.{reduce};

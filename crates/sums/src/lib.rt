@@ -1,4 +1,7 @@
 // The sum of a lin line, pair by pair: whether the pairs name stored polynomials, and the products of their factors with these.
+
+#![tactic(auto)]
+
 ghost use Rattle.std.specs.Prelude.{◌≡◌, List, [], ◌∷◌, ◌++◌, ℕ, ◌+◌, ◌*◌, ◌≤◌, ◌<◌, length, drop, replicate};
 ghost use Rattle.limits.specs.Limits.{field_terms, line_products, set_words, term_words, least_scratch};
 ghost use Rattle.algebra.specs.Polynomial.{products};

@@ -1,4 +1,7 @@
 // The table of the stored polynomials, whose terms lie one behind the other in the pool.
+
+#![tactic(auto)]
+
 ghost use Rattle.std.specs.Prelude.{◌≡◌, ◌+◌, ◌-◌, ◌≤◌, ◌<◌, length, drop, get_or, set};
 ghost use Rattle.std.proofs.Math.Seq.{paste};
 ghost use Rattle.words.specs.Parts.{among_eight};

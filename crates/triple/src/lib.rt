@@ -1,4 +1,7 @@
 // The checker of published texts: constraints, target and proof, with k beside them. The lent rooms are zeroed.
+
+#![tactic(auto)]
+
 ghost use Rattle.std.specs.Prelude.{◌≡◌, true, cond, ◌+◌, ◌*◌, ◌≤◌, ltb, length};
 ghost use Rattle.limits.specs.Limits.{text_bytes, variables, most_pool_terms, term_words, least_scratch};
 ghost use Rattle.paper.specs.Statement.{modulo, is_ring};
@@ -47,7 +50,7 @@ fn judged_again(
     requires { (is_ring (modulo k) ≡ true) × (length constraints.now + length target.now + length proof.now ≤ text_bytes)
         × (variables * slot_bytes ≤ length room.old) × (hint_count ≤ length hints.old)
         × (capacity * term_words ≤ length pool.old) × (capacity ≤ most_pool_terms) × (least_scratch ≤ length scratch.old) }
-    ensures { AnsweredIfPlain capacity k (record { constraints = constraints.entry.now; target = target.now; proof = proof.now }) a → answer_of result ≡ answer_in capacity k (record { constraints = constraints.entry.now; target = target.now; proof = proof.now }) }
+    ensures { AnsweredIfPlain capacity k (record { constraints = constraints.now; target = target.now; proof = proof.now }) a → answer_of result ≡ answer_in capacity k (record { constraints = constraints.now; target = target.now; proof = proof.now }) }
 {
     if every_plain(constraints, target, proof, room, hints, pool, scratch) {
         return a;
@@ -79,7 +82,7 @@ fn judged(
 ) -> Answer
     requires { (is_ring (modulo k) ≡ true) × (length constraints.now + length target.now + length proof.now ≤ text_bytes)
         × (capacity * term_words ≤ length pool.old) × (capacity ≤ most_pool_terms) × (least_scratch ≤ length scratch.old) }
-    ensures { answer_of result ≡ answer_in capacity k (record { constraints = constraints.entry.now; target = target.now; proof = proof.now }) }
+    ensures { answer_of result ≡ answer_in capacity k (record { constraints = constraints.now; target = target.now; proof = proof.now }) }
 {
     let mut room = [0u8; names::ROOM];
     let mut hints = [0u16; names::HINTS];
@@ -122,7 +125,7 @@ pub fn check(
     pool: &mut [u64],
     scratch: &mut [u64],
 ) -> Answer
-    ensures { CheckedTexts k (record { constraints = constraints.entry.now; target = target.now; proof = proof.now }) pool.old scratch.old result pool.new scratch.new }
+    ensures { CheckedTexts k (record { constraints = constraints.now; target = target.now; proof = proof.now }) pool.old scratch.old result pool.new scratch.new }
 {
     if pool.len() < limits::LEAST_POOL {
         return unread(limits::SHORT);
@@ -157,7 +160,7 @@ fn in_ring(
 ) -> Answer
     requires { (length constraints.now + length target.now + length proof.now ≤ text_bytes)
         × (capacity * term_words ≤ length pool.old) × (capacity ≤ most_pool_terms) × (least_scratch ≤ length scratch.old) }
-    ensures { answer_of result ≡ cond (is_ring (modulo k)) (answer_in capacity k (record { constraints = constraints.entry.now; target = target.now; proof = proof.now })) (paper.unread NUMBER) }
+    ensures { answer_of result ≡ cond (is_ring (modulo k)) (answer_in capacity k (record { constraints = constraints.now; target = target.now; proof = proof.now })) (paper.unread NUMBER) }
 {
     if k < 1 {
         return unread(limits::NUMBER);

@@ -79,7 +79,7 @@ pub(crate) fn pass(
     requires { (is_ring (modulo k) ≡ true) × (length constraints.now + length target.now + length proof.now ≤ text_bytes)
         × (variables * slot_bytes ≤ length room.old) × (hint_count ≤ length hints.old)
         × (capacity * term_words ≤ length pool.old) × (capacity ≤ most_pool_terms) × (least_scratch ≤ length scratch.old) }
-    ensures { PassIs plain capacity k (record { constraints = constraints.entry.now; target = target.now; proof = proof.now }) result }
+    ensures { PassIs plain capacity k (record { constraints = constraints.now; target = target.now; proof = proof.now }) result }
 {
     let a = judge_text(
         CONSTRAINT,

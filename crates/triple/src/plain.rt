@@ -97,7 +97,7 @@ pub(crate) fn every_plain(
 ) -> bool
     requires { (length constraints.now ≤ text_bytes) × (length target.now ≤ text_bytes) × (length proof.now ≤ text_bytes)
         × (variables * slot_bytes ≤ length room.old) × (hint_count ≤ length hints.old) × (least_scratch ≤ length scratch.old) }
-    ensures { result ≡ all_plain (named_items (record { constraints = constraints.entry.now; target = target.now; proof = proof.now })) }
+    ensures { result ≡ all_plain (named_items (record { constraints = constraints.now; target = target.now; proof = proof.now })) }
 {
     let a = plain_text(CONSTRAINT, constraints, room, hints, pool, scratch);
     if !a.open {

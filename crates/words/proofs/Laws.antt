@@ -215,7 +215,7 @@ members_lowest {n = suc n} {m = m} {u = suc u} v r l e =
     let even : m % 2 ≡ 0 = sym (bit_zero m) ∙ l.none 0 (omega arith) in
     let p : 2 ^ suc u ≡ 2 ^ u * 2 = pow-suc 2 u in
     members_even n v m even
-    ∙ members_lowest (suc v) (r / 2) (lowest_half l) (omega arith)
+    ∙ members_lowest {n = n} (suc v) (r / 2) (lowest_half l) (omega arith)
     ∙ ap₂ ◌∷◌ (let d : suc v + u ≡ v + suc u = omega arith in d) (sym (members_even n v r (omega arith)))
 
 -- m & (m - 1) is m without its lowest variable
@@ -228,7 +228,7 @@ and_lowest {n = suc n} {m = m} {u = zero} h l =
 and_lowest {n = suc n} {m = m} {u = suc u} h l =
     let even : m % 2 ≡ 0 = sym (bit_zero m) ∙ l.none 0 (omega arith) in
     let d : (m - 1) / 2 ≡ m / 2 - 1 = omega arith in
-    omega (arith, and_step m (m - 1), ap (bit_and (m / 2)) d, and_lowest (omega arith) (lowest_half l), pow-suc 2 u)
+    omega (arith, and_step m (m - 1), ap (bit_and (m / 2)) d, and_lowest {n = n} (omega arith) (lowest_half l), pow-suc 2 u)
 
 -- the zeros below the lowest variable are counted digit by digit
 below : (n m d t : ℕ) → m % 2 ≡ d → (m % 2 ≡ 0 → Lowest n (m / 2) t) → Lowest (suc n) m (under d t)

@@ -1,4 +1,7 @@
 // Arithmetic modulo 2 ^ 64, and sets of variables in words: variable v is digit v % 64 of word v / 64.
+
+#![tactic(auto)]
+
 ghost use Rattle.std.specs.Prelude.{◌≡◌, ℕ, ◌+◌, ◌-◌, ◌*◌, ◌%◌, ◌^◌, ◌<◌, ◌≤◌, length, replicate, ◌≢◌, bit_or};
 ghost use Rattle.limits.specs.Limits.{variables};
 ghost use Rattle.algebra.specs.Polynomial.{has, members};

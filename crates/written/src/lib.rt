@@ -1,1 +1,4 @@
 // Written polynomials as words hold them: definitions and laws, and no code.
+
+#![tactic(auto)]
+
