@@ -12,7 +12,7 @@ use checker::answer::Answer;
 use program::Input;
 use reader::number::{Number, number_at};
 use std::env::FillError;
-use std::fs;
+use std::fs::OpenOptions;
 use std::io::Write;
 use std::process::ExitCode;
 use std::rt::{Env, Files};
@@ -69,7 +69,7 @@ fn unreadable() -> Input
 }
 
 // Reads the file that an argument names. A missing or overlong argument is no file's name, and one that is not UTF-8 names none here.
-fn read_file<R: Env + Files>(rt: &R, argument: usize, room: &mut [u8]) -> Input
+fn read_file(rt: &HostRuntime, argument: usize, room: &mut [u8]) -> Input
     requires { host_text_bytes < length room.old }
     ensures { IsPrefixLen result.bytes room.new }
 {
@@ -80,7 +80,7 @@ fn read_file<R: Env + Files>(rt: &R, argument: usize, room: &mut [u8]) -> Input
     let Ok(name) = str::from_utf8(&path[..n]) else {
         return unreadable();
     };
-    let Ok(mut file) = fs::open(rt, name) else {
+    let Ok(mut file) = rt.open_file(OpenOptions::new().read(true), name) else {
         return unreadable();
     };
     program::read_input(&mut file, room, limits::HOST_TEXT_BYTES)
@@ -104,8 +104,8 @@ fn say<W: Write, E: Write>(to: &mut W, errors: &mut E, a: Answer) -> u32
 }
 
 // Reads the files into rooms that hold more than is taken, so that a longer one is known by its length, and says the answer at k.
-fn answer_files<R: Env + Files, W: Write, E: Write>(
-    rt: &R,
+fn answer_files<W: Write, E: Write>(
+    rt: &HostRuntime,
     to: &mut W,
     errors: &mut E,
     k: u64,
@@ -139,7 +139,7 @@ fn answer_files<R: Env + Files, W: Write, E: Write>(
 }
 
 // Reads K. The room is longer than the system lets an argument be.
-fn read_ring<R: Env>(rt: &R) -> RingArgument {
+fn read_ring(rt: &HostRuntime) -> RingArgument {
     let mut word = [0u8; LONGEST_ARGUMENT];
     match rt.arg(1, &mut word) {
         Ok(n) => ring_argument(&word[..n]),
@@ -148,16 +148,12 @@ fn read_ring<R: Env>(rt: &R) -> RingArgument {
 }
 
 // Whether there is an argument of this place. No byte of it is read.
-fn has_argument<R: Env>(rt: &R, place: usize) -> bool {
+fn has_argument(rt: &HostRuntime, place: usize) -> bool {
     !matches!(rt.arg(place, &mut []), Err(FillError::NotPresent))
 }
 
 // The program. Its result is the exit status: 0 where an answer was given, 2 where none was.
-fn lpac_published_program<R: Env + Files, W: Write, E: Write>(
-    rt: &R,
-    to: &mut W,
-    errors: &mut E,
-) -> u32
+fn lpac_published_program<W: Write, E: Write>(rt: &HostRuntime, to: &mut W, errors: &mut E) -> u32
     ensures { Status result }
 {
     if !has_argument(rt, ARGUMENTS - 1) || has_argument(rt, ARGUMENTS) {
