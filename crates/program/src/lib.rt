@@ -2,7 +2,8 @@
 
 #![tactic(auto)]
 
-ghost use Rattle.std.specs.Prelude.{◌≡◌, false, ◌<◌, length};
+ghost use Rattle.std.specs.Prelude.{◌≡◌, true, false, ◌<◌, ◌≤◌, length, take};
+ghost use Rattle.std.specs.Io.KnownBytes.{Consumes, IsAtEnd};
 ghost use Rattle.std.specs.Process.{exit_status};
 ghost use Rattle.program.specs.Program.{IsPrefixLen, status_of, Status};
 
@@ -25,7 +26,9 @@ pub struct Input {
 // and look like one that ended.
 pub fn read_input<R: Read>(input: &mut R, room: &mut [u8], most: usize) -> Input
     requires { most < length room.old }
-    ensures { IsPrefixLen result.bytes room.new }
+    ensures inside { IsPrefixLen result.bytes room.new }
+    ensures bytes { Consumes (R.remaining input.old) (R.remaining input.new) (take result.bytes room.new) }
+    ensures end { result.readable ≡ true → result.bytes ≤ most → IsAtEnd (R.remaining input.new) }
 {
     let mut done: usize = 0;
     while done <= most {
