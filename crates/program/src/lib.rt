@@ -2,10 +2,11 @@
 
 #![tactic(auto)]
 
-ghost use Rattle.std.specs.Prelude.{◌≡◌, true, false, ◌<◌, ◌≤◌, length, take};
-ghost use Rattle.std.specs.Io.KnownBytes.{Consumes, IsAtEnd};
+ghost use Rattle.std.specs.Prelude.{◌≡◌, true, false, ◌<◌, ◌≤◌, ◌++◌, length, take};
+ghost use Rattle.std.specs.Io.KnownBytes.{Consumes, IsAtEnd, Appends};
+ghost use Rattle.std.specs.Fmt.{decimal};
 ghost use Rattle.std.specs.Process.{exit_status};
-ghost use Rattle.program.specs.Program.{IsPrefixLen, status_of, Status};
+ghost use Rattle.program.specs.Program.{IsPrefixLen, six_numbers, status_of, Status};
 
 use std::io::{Read, Write};
 use std::process::ExitCode;
@@ -55,13 +56,18 @@ pub fn read_input<R: Read>(input: &mut R, room: &mut [u8], most: usize) -> Input
 }
 
 // Writes a number and the byte behind it, and tells whether both were written.
-fn say_number<W: Write>(to: &mut W, n: u64, behind: &[u8]) -> bool {
+fn say_number<W: Write>(to: &mut W, n: u64, behind: &[u8]) -> bool
+    ensures { result ≡ true → Appends (W.contents to.old) (W.contents to.new) (decimal n ++ behind.now) }
+{
     let number = write!(to, "{n}").is_ok();
-    number & to.write_all(behind).is_ok()
+    let rest = to.write_all(behind).is_ok();
+    number & rest
 }
 
 // Writes six numbers, parted by tabs, and tells whether all were written.
-fn say_six<W: Write>(to: &mut W, a: u64, b: u64, c: u64, d: u64, e: u64, f: u64) -> bool {
+fn say_six<W: Write>(to: &mut W, a: u64, b: u64, c: u64, d: u64, e: u64, f: u64) -> bool
+    ensures { result ≡ true → Appends (W.contents to.old) (W.contents to.new) (six_numbers a b c d e f) }
+{
     say_number(to, a, b"\t")
         & say_number(to, b, b"\t")
         & say_number(to, c, b"\t")
@@ -100,7 +106,8 @@ pub fn say_answer<W: Write, E: Write>(
     terms: u64,
     otherwise: &[u8],
 ) -> u32
-    ensures { Status result }
+    ensures status { Status result }
+    ensures said { result ≡ status_of true → Appends (W.contents to.old) (W.contents to.new) (six_numbers verdict line index products polynomials terms) }
 {
     let said = say_six(to, verdict, line, index, products, polynomials, terms);
     status(errors, said, otherwise)
