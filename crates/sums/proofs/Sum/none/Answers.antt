@@ -1,0 +1,7 @@
+-- `sums::Sum::none` meets its contract: no pairs have no products. Assumes nothing.
+use borrow.Author.Rules.{rules}
+use Rattle.sums.proofs.Summing.{summed_none}
+use Rattle.sums.proofs.Sum.none.Goals as goal
+
+pub returns : goal.returns
+returns c = λ k store scratch. summed_none c.refusal.ensures

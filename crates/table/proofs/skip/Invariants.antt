@@ -1,0 +1,16 @@
+-- `table::skip` meets its contract. The loop's invariant: x is none of the first j numbers.
+-- The measure is the count of numbers left. Assumes nothing.
+use mathlib.Core.Path.{sym, ◌∙◌}
+use Prim.Native.Nat.{◌≤◌, ◌-◌}
+use native.Mathlib.Omega.{arith}
+use borrow.Author.Count.{below_none}
+use borrow.Author.Rules.{rules}
+use Rattle.words.proofs.Eight.{below_eight}
+use Rattle.table.specs.Columns.{Absent}
+use Rattle.table.proofs.skip.Given as goal
+
+abbrev pub invariant-loop-j : goal.invariant-loop-j
+invariant-loop-j l = (l.j ≤ l.n) × Absent l.column l.j l.x
+
+abbrev pub decreases-loop-j : goal.decreases-loop-j
+decreases-loop-j l = l.n - l.j

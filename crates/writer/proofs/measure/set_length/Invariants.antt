@@ -1,0 +1,20 @@
+-- `writer::measure::set_length` meets its contract. The loop's invariant: the sum and the variables of the words from i on make up those of the set.
+-- The measure is the number of words left. Assumes nothing.
+use mathlib.Core.Path.{◌≡◌, ap}
+use Prim.Native.Nat.{◌+◌, ◌-◌, ◌≤◌}
+use native.Mathlib.Omega.{arith}
+use borrow.Author.Rules.{rules}
+use lib.ListN.{length}
+use Rattle.limits.specs.Limits.{set_words, variables}
+use Rattle.ground.specs.Lists.{gather}
+use Rattle.algebra.specs.Polynomial.{members}
+use Rattle.words.specs.Words.{number_of}
+use Rattle.writer.specs.Writing.{dotted}
+use Rattle.writer.proofs.Pieces.{set_rest, set_start, set_length_more, set_end, set_most}
+use Rattle.writer.proofs.measure.set_length.Given as goal
+
+abbrev pub invariant-loop-i : goal.invariant-loop-i
+invariant-loop-i l = (l.i ≤ set_words) × (l.sum + length (set_rest l.a l.i) ≡ length (gather dotted (members variables 0 (number_of l.a))))
+
+abbrev pub decreases-loop-i : goal.decreases-loop-i
+decreases-loop-i l = set_words - l.i
