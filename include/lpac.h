@@ -1,4 +1,4 @@
-/* The host calls of the proved checker. Link target/staticlib/liblpac_host.a, which `rt staticlib lpac_host` writes. */
+/* The host calls of the proved checker. Link target/staticlib/liblpac_host.a, which `tools/libraries.sh lpac_host` builds. */
 #ifndef LPAC_H
 #define LPAC_H
 

@@ -1,4 +1,4 @@
-//! Links the proved libraries, which `rt staticlib` writes: the host call, and the calls for tests and benchmarks if they are asked for.
+//! Links the proved libraries, which `tools/libraries.sh` builds: the host call, and the calls for tests and benchmarks if they are asked for.
 
 use std::path::Path;
 
@@ -7,7 +7,7 @@ fn link(name: &str) {
     let library = folder.join(format!("lib{name}.a"));
     println!("cargo::rerun-if-changed={}", library.display());
     if !library.exists() {
-        println!("cargo::error=the proved library {} is missing: run `rt staticlib {name}` at the root first", library.display());
+        println!("cargo::error=the proved library {} is missing: run `tools/libraries.sh {name}` at the root first", library.display());
         return;
     }
     println!("cargo::rustc-link-search=native={}", folder.display());

@@ -1,5 +1,5 @@
 # What the scripts that measure share: the benchmark, a folder, and how instructions are counted. They are at the root when they source it,
-# and need valgrind, `rt staticlib lpac_host` and `rt staticlib lpac_rooms`.
+# and need valgrind and `tools/libraries.sh`.
 (cd rust && cargo build --release --offline --quiet)
 bench=rust/target/release/bench
 folder=$(mktemp -d)

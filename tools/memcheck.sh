@@ -1,6 +1,6 @@
 #!/usr/bin/env bash
 # Runs the programs that check and the C example under valgrind's memcheck on accepted and refused texts, and prints the errors of each.
-# Needs `tools/programs.sh`, `rt staticlib lpac_host`, `rt staticlib lpac_rooms`, gcc and valgrind.
+# Needs `tools/programs.sh`, `tools/libraries.sh`, gcc and valgrind.
 set -euo pipefail
 cd "$(dirname "$0")/.."
 folder=$(mktemp -d)

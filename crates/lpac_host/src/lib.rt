@@ -36,8 +36,7 @@ pub fn host_answer(text: &[u8]) -> Answer
 }
 
 // The number of the answer to a text.
-#[unsafe(no_mangle)]
-pub extern "C" fn lpac_verdict(text: &[u8]) -> u64
+pub fn lpac_verdict(text: &[u8]) -> u64
     ensures { Hosted text.now result }
 {
     host_number(host_answer(text))
@@ -63,13 +62,7 @@ pub fn published_answer(k: u64, constraints: &[u8], target: &[u8], proof: &[u8])
 }
 
 // The number of the answer to three texts at k.
-#[unsafe(no_mangle)]
-pub extern "C" fn lpac_published_verdict(
-    k: u64,
-    constraints: &[u8],
-    target: &[u8],
-    proof: &[u8],
-) -> u64
+pub fn lpac_published_verdict(k: u64, constraints: &[u8], target: &[u8], proof: &[u8]) -> u64
     ensures { PublishedHosted k (record { constraints = constraints.now; target = target.now; proof = proof.now }) result }
 {
     host_number(published_answer(k, constraints, target, proof))

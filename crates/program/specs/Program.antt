@@ -1,5 +1,18 @@
--- The status that a program ends with.
-use Rattle.std.specs.Prelude.{◌≡◌, Bool, cond, ℕ}
+-- How much of a room was filled, what is written for an answer, and the status that a program ends with.
+use Rattle.std.specs.Prelude.{◌≡◌, Bool, cond, ℕ, ◌≤◌, List, [], ◌∷◌, ◌++◌, length, take}
+use Rattle.std.specs.Fmt.{decimal}
+
+-- `&xs[..n]` is in bounds and has n bytes
+abbrev pub IsPrefixLen : ℕ → List ℕ → Type 0
+IsPrefixLen n xs = (n ≤ length xs) × (n ≡ length (take n xs))
+
+-- a number in decimal and the byte behind it
+abbrev pub column : ℕ → ℕ → List ℕ
+column n behind = decimal n ++ behind ∷ []
+
+-- six numbers on a line, parted by tabs: a tab is byte 9, and byte 10 ends the line
+abbrev pub six_numbers : ℕ → ℕ → ℕ → ℕ → ℕ → ℕ → List ℕ
+six_numbers a b c d e f = column a 9 ++ (column b 9 ++ (column c 9 ++ (column d 9 ++ (column e 9 ++ column f 10))))
 
 -- 0 where all was answered, 2 where it was not
 abbrev pub status_of : Bool → ℕ

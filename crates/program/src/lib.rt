@@ -2,11 +2,14 @@
 
 #![tactic(auto)]
 
-ghost use Rattle.std.specs.Prelude.{◌≡◌, false, ◌<◌, length};
-ghost use Rattle.io.specs.Counts.{IsPrefixLen};
-ghost use Rattle.program.specs.Program.{status_of, Status};
+ghost use Rattle.std.specs.Prelude.{◌≡◌, true, false, ◌<◌, ◌≤◌, ◌++◌, length, take};
+ghost use Rattle.std.specs.Io.KnownBytes.{Consumes, IsAtEnd, Appends};
+ghost use Rattle.std.specs.Fmt.{decimal};
+ghost use Rattle.std.specs.Process.{exit_status};
+ghost use Rattle.program.specs.Program.{IsPrefixLen, six_numbers, status_of, Status};
 
-use libc::{STDERR_FILENO, STDOUT_FILENO};
+use std::io::{Read, Write};
+use std::process::ExitCode;
 
 // The exit statuses: all was answered; an input could not be read or an answer not be written.
 pub const DONE: u32 = 0;
@@ -22,21 +25,29 @@ pub struct Input {
 
 // Reads until the input ends or more than `most` bytes are there: in a room of no more than `most` a longer input would be cut,
 // and look like one that ended.
-pub fn read_input(fd: i32, room: &mut [u8], most: usize) -> Input
+pub fn read_input<R: Read>(input: &mut R, room: &mut [u8], most: usize) -> Input
     requires { most < length room.old }
-    ensures { IsPrefixLen result.bytes room.new }
+    ensures inside { IsPrefixLen result.bytes room.new }
+    ensures bytes { Consumes (R.remaining input.old) (R.remaining input.new) (take result.bytes room.new) }
+    ensures end { result.readable ≡ true → result.bytes ≤ most → IsAtEnd (R.remaining input.new) }
 {
     let mut done: usize = 0;
     while done <= most {
-        let got = libc::read(fd, &mut room[done..]);
-        let n = io::count(got, &room[done..]);
-        if n == 0 {
-            return Input {
-                bytes: done,
-                readable: got == 0,
-            };
+        match input.read(&mut room[done..]) {
+            Ok(0) => {
+                return Input {
+                    bytes: done,
+                    readable: true,
+                };
+            }
+            Ok(n) => done += n,
+            Err(_) => {
+                return Input {
+                    bytes: done,
+                    readable: false,
+                };
+            }
         }
-        done += n;
     }
     Input {
         bytes: done,
@@ -45,40 +56,48 @@ pub fn read_input(fd: i32, room: &mut [u8], most: usize) -> Input
 }
 
 // Writes a number and the byte behind it, and tells whether both were written.
-fn say_number(n: u64, behind: &[u8]) -> bool {
-    io::print_decimal(STDOUT_FILENO, n) & io::write_all(STDOUT_FILENO, behind)
+fn say_number<W: Write>(to: &mut W, n: u64, behind: &[u8]) -> bool
+    ensures { result ≡ true → Appends (W.contents to.old) (W.contents to.new) (decimal n ++ behind.now) }
+{
+    let number = write!(to, "{n}").is_ok();
+    let rest = to.write_all(behind).is_ok();
+    number & rest
 }
 
 // Writes six numbers, parted by tabs, and tells whether all were written.
-fn say_six(a: u64, b: u64, c: u64, d: u64, e: u64, f: u64) -> bool {
-    say_number(a, b"\t")
-        & say_number(b, b"\t")
-        & say_number(c, b"\t")
-        & say_number(d, b"\t")
-        & say_number(e, b"\t")
-        & say_number(f, b"\n")
+fn say_six<W: Write>(to: &mut W, a: u64, b: u64, c: u64, d: u64, e: u64, f: u64) -> bool
+    ensures { result ≡ true → Appends (W.contents to.old) (W.contents to.new) (six_numbers a b c d e f) }
+{
+    say_number(to, a, b"\t")
+        & say_number(to, b, b"\t")
+        & say_number(to, c, b"\t")
+        & say_number(to, d, b"\t")
+        & say_number(to, e, b"\t")
+        & say_number(to, f, b"\n")
 }
 
 // Says on standard error what went wrong, and gives the status for it.
-pub fn fail(what: &[u8]) -> u32
+pub fn fail<E: Write>(errors: &mut E, what: &[u8]) -> u32
     ensures { result ≡ status_of false }
 {
-    io::write_all(STDERR_FILENO, what);
+    let _ = errors.write_all(what);
     FAILED
 }
 
 // The status of a program whose answer was written; where it was not, this is said.
-pub fn status(written: bool, otherwise: &[u8]) -> u32
+pub fn status<E: Write>(errors: &mut E, written: bool, otherwise: &[u8]) -> u32
     ensures { result ≡ status_of written }
 {
     if written {
         return DONE;
     }
-    fail(otherwise)
+    fail(errors, otherwise)
 }
 
 // Writes the six numbers of an answer, and gives the status for it.
-pub fn say_answer(
+pub fn say_answer<W: Write, E: Write>(
+    to: &mut W,
+    errors: &mut E,
     verdict: u64,
     line: u64,
     index: u64,
@@ -87,8 +106,17 @@ pub fn say_answer(
     terms: u64,
     otherwise: &[u8],
 ) -> u32
-    ensures { Status result }
+    ensures status { Status result }
+    ensures said { result ≡ status_of true → Appends (W.contents to.old) (W.contents to.new) (six_numbers verdict line index products polynomials terms) }
 {
-    let said = say_six(verdict, line, index, products, polynomials, terms);
-    status(said, otherwise)
+    let said = say_six(to, verdict, line, index, products, polynomials, terms);
+    status(errors, said, otherwise)
+}
+
+// What `main` returns for a status, so that the process ends with it.
+pub fn exit_code(status: u32) -> ExitCode
+    requires { Status status }
+    ensures { exit_status result ≡ status }
+{
+    ExitCode::from(status as u8)
 }

@@ -1,6 +1,5 @@
--- `lpac_host::host_answer` meets its contract: the text is too long, or it is checked. No loop. Assumes nothing.
-use mathlib.Core.Path.{refl}
-use borrow.Author.Rules.{rules}
+-- The text is too long, or it is checked.
+use Rattle.std.proofs.Common.{refl}
 use Rattle.lpac_host.proofs.Hosting.{hosted_long, hosted_checked}
 use Rattle.lpac_host.proofs.host_answer.Goals as goal
 

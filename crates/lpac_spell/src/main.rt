@@ -1,6 +1,6 @@
 // The spelling program: lines `k<tab>field` from standard input, and for each `verdict<tab>spelling` on standard output; nothing
 // stands behind the tab where the field is refused. A line of another shape is FORM, and an input above 65,536 bytes has the one
-// answer LONGTEXT. It is a library, since a program of the kit cannot set its exit status: its one function is linked as a program's `main`.
+// answer LONGTEXT.
 
 #![tactic(auto)]
 
@@ -9,8 +9,9 @@ ghost use Rattle.limits.specs.Limits.{host_text_bytes};
 ghost use Rattle.program.specs.Program.{Status};
 ghost use Rattle.lpac_spell.specs.Asks.{behind_tab, AskedIs};
 
-use libc::{STDIN_FILENO, STDOUT_FILENO};
 use reader::number::{Decimal, decimal_at};
+use std::io::{Read, Write};
+use std::process::ExitCode;
 
 // A k and the place of the field, or a line of another shape.
 #[derive(Drop)]
@@ -46,33 +47,33 @@ fn asks(line: &[u8]) -> Asked
 }
 
 // Writes an answer, and tells whether it was written.
-fn say(verdict: u64, spelling: &[u8]) -> bool {
-    io::print_decimal(STDOUT_FILENO, verdict)
-        & io::write_all(STDOUT_FILENO, b"\t")
-        & io::write_all(STDOUT_FILENO, spelling)
-        & io::write_all(STDOUT_FILENO, b"\n")
+fn say<W: Write>(to: &mut W, verdict: u64, spelling: &[u8]) -> bool {
+    write!(to, "{verdict}").is_ok()
+        & to.write_all(b"\t").is_ok()
+        & to.write_all(spelling).is_ok()
+        & to.write_all(b"\n").is_ok()
 }
 
 // Answers a line.
-fn answer(line: &[u8], scratch: &mut [u64], out: &mut [u8]) -> bool {
+fn answer<W: Write>(to: &mut W, line: &[u8], scratch: &mut [u64], out: &mut [u8]) -> bool {
     let a = asks(line);
     let Asked::Field(k, at) = a else {
-        return say(limits::FORM, b"");
+        return say(to, limits::FORM, b"");
     };
     let r = speller::spell(&line[at..], k, scratch, out);
     let n = r.written;
-    say(r.verdict, &out[..n])
+    say(to, r.verdict, &out[..n])
 }
 
 // Answers the lines of a text, the last of which may lack its byte 10, as long as answers can be written.
-fn answer_lines(text: &[u8], scratch: &mut [u64], out: &mut [u8]) -> bool {
+fn answer_lines<W: Write>(to: &mut W, text: &[u8], scratch: &mut [u64], out: &mut [u8]) -> bool {
     let mut at = 0;
     while at < text.len() {
         let e = reader::find::line_end(text, at);
         if e == text.len() {
-            return say(limits::FORM, b"");
+            return say(to, limits::FORM, b"");
         }
-        if !answer(&text[at..e], scratch, out) {
+        if !answer(to, &text[at..e], scratch, out) {
             return false;
         }
         at = e + 1;
@@ -81,37 +82,47 @@ fn answer_lines(text: &[u8], scratch: &mut [u64], out: &mut [u8]) -> bool {
 }
 
 // Answers the lines of a text that is not too long.
-fn answer_text(text: &[u8]) -> bool {
+fn answer_text<W: Write>(to: &mut W, text: &[u8]) -> bool {
     if limits::HOST_TEXT_BYTES < text.len() {
-        return say(limits::LONGTEXT, b"");
+        return say(to, limits::LONGTEXT, b"");
     }
     let mut scratch = [0u64; limits::LEAST_SPELLING_SCRATCH];
     // A spelling takes less (`NeverFull` of the crate promises), so that FULL does not come up.
     let mut out = [0u8; 2 * limits::LINE_BYTES];
-    answer_lines(text, &mut scratch, &mut out)
+    answer_lines(to, text, &mut scratch, &mut out)
 }
 
 // Reads a text into a room that holds more than is taken, so that a longer text is known by its length, and answers its lines.
-fn answer_input(text: &mut [u8]) -> u32
+fn answer_input<R: Read, W: Write, E: Write>(
+    input: &mut R,
+    to: &mut W,
+    errors: &mut E,
+    text: &mut [u8],
+) -> u32
     requires { host_text_bytes < length text.old }
     ensures { Status result }
 {
-    let i = program::read_input(STDIN_FILENO, text, limits::HOST_TEXT_BYTES);
+    let i = program::read_input(input, text, limits::HOST_TEXT_BYTES);
     if !i.readable {
-        return program::fail(b"lpac_spell: standard input cannot be read\n");
+        return program::fail(errors, b"lpac_spell: standard input cannot be read\n");
     }
     let n = i.bytes;
     program::status(
-        answer_text(&text[..n]),
+        errors,
+        answer_text(to, &text[..n]),
         b"lpac_spell: the answer cannot be written\n",
     )
 }
 
 // The program. Its result is the exit status: 0 where all was answered, 2 where it was not.
-#[unsafe(no_mangle)]
-pub extern "C" fn lpac_spell_program() -> u32
+fn lpac_spell_program<R: Read, W: Write, E: Write>(input: &mut R, to: &mut W, errors: &mut E) -> u32
     ensures { Status result }
 {
     let mut text = [0u8; limits::HOST_TEXT_BYTES + 1];
-    answer_input(&mut text)
+    answer_input(input, to, errors, &mut text)
+}
+
+fn main(rt: HostRuntime) -> ExitCode {
+    let status = lpac_spell_program(&mut rt.stdin(), &mut rt.stdout(), &mut rt.stderr());
+    program::exit_code(status)
 }
