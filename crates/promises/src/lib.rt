@@ -1,4 +1,3 @@
 // No code: what is promised, as statements in specs/ and their proofs in proofs/.
 
 #![tactic(auto)]
-
