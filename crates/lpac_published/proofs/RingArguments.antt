@@ -12,6 +12,8 @@ use Rattle.limits.specs.Verdicts.{NUMBER, FORM}
 use Rattle.paper.specs.Grammar.{Bytes, decimal}
 use Rattle.paper.specs.Statement.{within, is_ring}
 use Rattle.paper.specs.Named.{Texts, published_answer}
+use Rattle.paper.proofs.Reading.{clash}
+use Rattle.paper.proofs.Names.{never}
 use Rattle.reader.specs.Places.{Got}
 use Rattle.reader.specs.Numbers.{NumberIs}
 use Rattle.reader.specs.declared.number.Number.{Number}
@@ -44,3 +46,12 @@ module _ (word : Bytes) where
       let r : NumberIs decimal 1 greatest_ring word 0 (Refused why e) = rw f at h in
       ⊎_elim (λ x. ended_at 0 x.1.value e x.1.taken (same_outside 0 x.1.value refl x.1.outside))
       (λ x. absurd (let z : FORM ≡ NUMBER = sym x.0 ∙ n in let y : ⊥ = omega arith in y)) r
+
+  pub ring_none : {d : Number} {why e : ℕ} → NumberIs decimal 1 greatest_ring word 0 d → d ≡ Refused why e → (why ≡ NUMBER → ⊥)
+      → RingArgumentIs word (record { k = 0; decimal = false })
+  ring_none {why = why} {e = e} h f n =
+      let r : NumberIs decimal 1 greatest_ring word 0 (Refused why e) = rw f at h in
+      record {
+        says = λ q. never (sym q);
+        none = λ q v g. ⊎_elim (λ x. n x.0) (λ x. clash (sym x.1.reads ∙ g.reads)) r;
+      }

@@ -153,7 +153,11 @@ fn has_argument(rt: &HostRuntime, place: usize) -> bool {
 }
 
 // The program. Its result is the exit status: 0 where an answer was given, 2 where none was.
-pub fn lpac_published_program<W: Write, E: Write>(rt: &HostRuntime, to: &mut W, errors: &mut E) -> u32
+pub fn lpac_published_program<W: Write, E: Write>(
+    rt: &HostRuntime,
+    to: &mut W,
+    errors: &mut E,
+) -> u32
     ensures { Status result }
 {
     if !has_argument(rt, ARGUMENTS - 1) || has_argument(rt, ARGUMENTS) {

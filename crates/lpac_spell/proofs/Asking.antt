@@ -10,14 +10,15 @@ use Rattle.ground.proofs.Tests.{and_left}
 use Rattle.limits.specs.Limits.{greatest_ring}
 use Rattle.paper.specs.Grammar.{Bytes, decimal}
 use Rattle.paper.specs.Spelling.{Spelled, output_after}
-use Rattle.reader.specs.Places.{Got}
+use Rattle.paper.proofs.Reading.{clash}
+use Rattle.reader.specs.Places.{Got, Fails}
 use Rattle.reader.specs.Numbers.{DecimalIs, TooLarge}
 use Rattle.reader.specs.declared.number.Decimal.{Decimal}
-use Rattle.reader.specs.declared.number.Decimal.TheVariants.{Value, Large}
+use Rattle.reader.specs.declared.number.Decimal.TheVariants.{Value, Large, Stuck}
 use Rattle.reader.proofs.Decided.{same_end}
 use Rattle.speller.specs.Spells.{Gives}
 use Rattle.speller.specs.declared.Spelled.{Spelled as Answer}
-use Rattle.lpac_spell.specs.Asks.{tab_at, behind_tab, AskedIs}
+use Rattle.lpac_spell.specs.Asks.{tab_at, behind_tab, Asks, AskedIs}
 use Rattle.lpac_spell.specs.declared.Asked.{Asked}
 use Rattle.lpac_spell.specs.declared.Asked.TheVariants.{Field, Shapeless}
 
@@ -51,6 +52,12 @@ asked_behind s n e k g small large = go (tab_at s e) refl
         omega arith
 
 module _ (s : Bytes) (d : Decimal) (h : DecimalIs decimal s 0 d) where
+  pub value_inside : {v e : ℕ} → d ≡ Value v e → e ≤ length s
+  value_inside {v} {e} q = let g : Got decimal s 0 v e = rw q at h in g.inside
+
+  pub large_inside : {e : ℕ} → d ≡ Large e → e ≤ length s
+  large_inside {e} q = let g : TooLarge decimal s 0 e = rw q at h in g.taken.inside
+
   pub asks_value : {v e : ℕ} {r : Asked} → d ≡ Value v e → r ≡ behind_tab s v e → AskedIs s r
   asks_value {v} {e} q w = subst (AskedIs s) (sym w) (asked_behind s v e v (rw q at h) (λ l. refl) (λ l. l))
 
@@ -59,6 +66,12 @@ module _ (s : Bytes) (d : Decimal) (h : DecimalIs decimal s 0 d) where
       let g : TooLarge decimal s 0 e = rw q at h in
       let b = g.large in
       subst (AskedIs s) (sym w) (asked_behind s g.value e (greatest_ring + 1) g.taken (λ l. absurd (let z : ⊥ = omega arith in z)) (λ l. omega arith))
+
+  pub asks_stuck : {p : ℕ} → d ≡ Stuck p → AskedIs s Shapeless
+  asks_stuck {p} q = let f : Fails decimal s 0 p = rw q at h in λ n e g u. clash (sym f.reads ∙ g.reads)
+
+pub asks_inside : (s : Bytes) (r : Asked) {k at : ℕ} → r ≡ Field k at → AskedIs s r → at ≤ length s
+asks_inside s r {k} {at} q h = let a : Asks s k at = rw q at h in a.inside
 
 pub spelled_inside : {x : Spelled} {out out' : Bytes} {r : Answer} → Gives x out out' r → r.written ≤ length out'
 unfolding output_after

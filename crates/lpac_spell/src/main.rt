@@ -115,7 +115,11 @@ fn answer_input<R: Read, W: Write, E: Write>(
 }
 
 // The program. Its result is the exit status: 0 where all was answered, 2 where it was not.
-pub fn lpac_spell_program<R: Read, W: Write, E: Write>(input: &mut R, to: &mut W, errors: &mut E) -> u32
+pub fn lpac_spell_program<R: Read, W: Write, E: Write>(
+    input: &mut R,
+    to: &mut W,
+    errors: &mut E,
+) -> u32
     ensures { Status result }
 {
     let mut text = [0u8; limits::HOST_TEXT_BYTES + 1];
