@@ -46,7 +46,11 @@ fn answer_input<R: Read, W: Write, E: Write>(
 }
 
 // The program. Its result is the exit status: 0 where an answer was given, 2 where none was.
-pub fn lpac_check_program<R: Read, W: Write, E: Write>(input: &mut R, to: &mut W, errors: &mut E) -> u32
+pub fn lpac_check_program<R: Read, W: Write, E: Write>(
+    input: &mut R,
+    to: &mut W,
+    errors: &mut E,
+) -> u32
     ensures { Status result }
 {
     let mut text = [0u8; limits::HOST_TEXT_BYTES + 1];

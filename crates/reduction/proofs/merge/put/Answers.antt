@@ -11,4 +11,4 @@ returns-then-d-eq0 c =
 pub returns : goal.returns
 returns c =
     let a = c.args in
-    put_one a.k a.n a.s.now a.t a.c _ c.cut-d.ensures _ _ _ c.if-d-eq0.false (omega arith) c.set_of.ensures (search rules) c.term_of-u.ensures c.write_term.ensures
+    put_one a.k a.n a.s.now a.t a.c _ c.cut-d.ensures _ _ _ (λ e. let z : ⊥ = omega arith in z) (omega arith) c.set_of.ensures (search rules) c.term_of-u.ensures c.write_term.ensures
