@@ -119,15 +119,26 @@ fn the_command_tells_of_such_inputs_too() {
 
 // ---- answers that cannot be written
 
+/// A program whose answer goes nowhere says so, with status 2.
+fn cannot_write(name: &str, output: impl Into<Stdio>) {
+    let input = File::open(at_root(&format!("rust/tests/data/{name}.stdin"))).unwrap();
+    let said = program(name).stdin(input).stdout(output).stderr(Stdio::piped()).spawn().unwrap().wait_with_output().unwrap();
+    assert_eq!((said.status.code(), said.stderr.escape_ascii().to_string()), (Some(2), format!("{name}: the answer cannot be written\\n")));
+}
+
 #[test]
 fn an_answer_that_cannot_be_written_is_a_failure() {
     for name in PROGRAMS {
-        let input = File::open(at_root(&format!("rust/tests/data/{name}.stdin"))).unwrap();
-        let full = OpenOptions::new().write(true).open("/dev/full").unwrap();
-        let said = program(name).stdin(input).stdout(full).stderr(Stdio::piped()).spawn().unwrap().wait_with_output().unwrap();
-        assert_eq!(
-            (said.status.code(), said.stderr.escape_ascii().to_string()),
-            (Some(2), format!("{name}: the answer cannot be written\\n"))
-        );
+        cannot_write(name, OpenOptions::new().write(true).open("/dev/full").unwrap());
+    }
+}
+
+/// The signal that such a pipe sends does not end the program before it can say so.
+#[test]
+fn an_answer_that_nobody_reads_is_a_failure() {
+    for name in PROGRAMS {
+        let (reader, writer) = std::io::pipe().unwrap();
+        drop(reader);
+        cannot_write(name, writer);
     }
 }
