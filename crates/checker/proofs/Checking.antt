@@ -1,14 +1,15 @@
 -- A checked text: no run ends with SHORT or LONGTEXT, so all that was read leaves its rooms zero. Assumes nothing.
 use mathlib.Core.Path.{◌≡◌, refl, sym, ap, ◌∙◌}
-use mathlib.Core.Bool.{true, false, not}
+use mathlib.Core.Bool.{true, false, ◌||◌, not}
+use mathlib.Core.Logic.{◌⊎◌, inl, inr}
 use mathlib.Core.List.{List}
-use Prim.Native.Nat.{ℕ, ◌/◌, ◌*◌, ◌≤◌, ◌<◌}
+use Prim.Native.Nat.{ℕ, ◌≤◌, ◌<◌}
 use native.Mathlib.Omega.{arith}
-use lib.Dec.{leb}
+use lib.Dec.{leb, ltb}
 use lib.ListN.{length, replicate}
 use borrow.Author.Tests.{lt-ltb, le-ltb, not-true}
 use Rattle.ground.proofs.Tests.{and_left}
-use Rattle.limits.specs.Limits.{text_bytes, least_pool, least_scratch, most_pool_terms, term_words}
+use Rattle.limits.specs.Limits.{text_bytes, least_pool, least_scratch}
 use Rattle.limits.specs.Verdicts.{SHORT, LONGTEXT, NAMES}
 use Rattle.paper.specs.Rules.{start}
 use Rattle.paper.specs.Grammar.{Bytes}
@@ -16,7 +17,7 @@ use Rattle.paper.specs.Answer as answers
 use Rattle.paper.specs.Answer.{items, run, capacity_of, unread, answer, room_after}
 use Rattle.paper.proofs.Verdicts.{early, late, text_late}
 use Rattle.checker.specs.declared.answer.Answer.{Answer}
-use Rattle.checker.specs.Checked.{answer_of, Ran, Checked}
+use Rattle.checker.specs.Checked.{answer_of, Rooms, Checked}
 
 -- ---- rooms
 pub unread_kept : (a : Answer) (v : ℕ) (room : List ℕ) → early v ≡ true → answer_of a ≡ unread v → room ≡ room_after a.verdict room
@@ -27,22 +28,18 @@ pub room_zeroed : (v : ℕ) (room : List ℕ) → early v ≡ false → replicat
 unfolding room_after
 room_zeroed v room e = rw e refl
 
+-- one of them is too short
+abbrev pub TooShort : ℕ → ℕ → Type 0
+TooShort pool scratch = (pool < least_pool) ⊎ ((least_pool ≤ pool) × (scratch < least_scratch))
+
+pub short_rooms : {pool scratch : ℕ} → TooShort pool scratch → (ltb pool least_pool || ltb scratch least_scratch) ≡ true
+short_rooms {pool} {scratch} (inl h) = rw (lt-ltb pool least_pool h) refl
+short_rooms {pool} {scratch} (inr h) = rw (le-ltb pool least_pool h.0, lt-ltb scratch least_scratch h.1) refl
+
 -- ---- the terms that a pool holds
-pub capacity_most : (n : ℕ) → most_pool_terms < n / term_words → most_pool_terms ≡ capacity_of n
+pub rooms_fit : {r : ℕ} {pool scratch : List ℕ} → r ≡ capacity_of (length pool) → least_scratch ≤ length scratch → Rooms r pool scratch
 unfolding capacity_of
-capacity_most n h = omega arith
-
-pub capacity_all : (n : ℕ) → n / term_words ≤ most_pool_terms → n / term_words ≡ capacity_of n
-unfolding capacity_of
-capacity_all n h = omega arith
-
-pub capacity_words : {r : ℕ} (n : ℕ) → r ≡ capacity_of n → r * term_words ≤ n
-unfolding capacity_of
-capacity_words n e = omega arith
-
-pub capacity_fits : {r : ℕ} (n : ℕ) → r ≡ capacity_of n → r ≤ most_pool_terms
-unfolding capacity_of
-capacity_fits n e = omega arith
+rooms_fit e h = record { words = omega arith; most = omega arith; least = h }
 
 -- ---- the whole
 whole : (text : Bytes) (pool scratch : ℕ) → least_pool ≤ pool → least_scratch ≤ scratch → length text ≤ text_bytes
@@ -54,26 +51,22 @@ module _ {text : Bytes} {pool scratch : List ℕ} {a : Answer} where
   checked_unread : (v : ℕ) → early v ≡ true → answer text (length pool) (length scratch) ≡ unread v → answer_of a ≡ unread v → Checked text pool scratch a pool scratch
   checked_unread v h e q = record { answer = q ∙ sym e; pool_after = unread_kept a v pool h q; scratch_after = unread_kept a v scratch h q }
 
-  pub checked_pool : length pool < least_pool → answer_of a ≡ unread SHORT → Checked text pool scratch a pool scratch
+  pub checked_short : TooShort (length pool) (length scratch) → answer_of a ≡ unread SHORT → Checked text pool scratch a pool scratch
   unfolding answer
-  checked_pool h = checked_unread SHORT refl (rw (lt-ltb (length pool) least_pool h) refl)
-
-  pub checked_scratch : least_pool ≤ length pool → length scratch < least_scratch → answer_of a ≡ unread SHORT → Checked text pool scratch a pool scratch
-  unfolding answer
-  checked_scratch g h = checked_unread SHORT refl (rw (le-ltb (length pool) least_pool g, lt-ltb (length scratch) least_scratch h) refl)
+  checked_short h = checked_unread SHORT refl (rw (short_rooms h) refl)
 
   module _ (g : least_pool ≤ length pool) (h : least_scratch ≤ length scratch) where
     pub checked_text : text_bytes < length text → answer_of a ≡ unread LONGTEXT → Checked text pool scratch a pool scratch
     unfolding answer
     checked_text l = checked_unread LONGTEXT refl (rw (le-ltb (length pool) least_pool g, le-ltb (length scratch) least_scratch h, lt-ltb text_bytes (length text) l) refl)
 
-    pub checked_run : length text ≤ text_bytes → {capacity : ℕ} {p q p' q' : List ℕ} → capacity ≡ capacity_of (length pool) → Ran capacity text pool scratch a p q
-        → p' ≡ replicate (length p) 0 → q' ≡ replicate (length q) 0 → Checked text pool scratch a p' q'
-    checked_run l {capacity} c r d e =
+    pub checked_run : length text ≤ text_bytes → {capacity m n : ℕ} {p' q' : List ℕ} → capacity ≡ capacity_of (length pool) → answer_of a ≡ run capacity start 0 (items text)
+        → m ≡ length pool → n ≡ length scratch → p' ≡ replicate m 0 → q' ≡ replicate n 0 → Checked text pool scratch a p' q'
+    checked_run l {capacity} c r i j d e =
         let v : ℕ = a.verdict in
-        let w : early v ≡ false = not-true (early v) (and_left (not (early v)) (leb v NAMES) (ap (λ (x : answers.Answer). late x.verdict) r.answer ∙ text_late capacity start 0 text)) in
+        let w : early v ≡ false = not-true (early v) (and_left (not (early v)) (leb v NAMES) (ap (λ (x : answers.Answer). late x.verdict) r ∙ text_late capacity start 0 text)) in
         record {
-          answer = r.answer ∙ ap (λ (n : ℕ). run n start 0 (items text)) c ∙ sym (whole text (length pool) (length scratch) g h l);
-          pool_after = d ∙ ap (λ (n : ℕ). replicate n 0) r.pool_length ∙ room_zeroed v pool w;
-          scratch_after = e ∙ ap (λ (n : ℕ). replicate n 0) r.scratch_length ∙ room_zeroed v scratch w;
+          answer = r ∙ ap (λ (n : ℕ). run n start 0 (items text)) c ∙ sym (whole text (length pool) (length scratch) g h l);
+          pool_after = d ∙ ap (λ (n : ℕ). replicate n 0) i ∙ room_zeroed v pool w;
+          scratch_after = e ∙ ap (λ (n : ℕ). replicate n 0) j ∙ room_zeroed v scratch w;
         }

@@ -1,44 +1,24 @@
 -- What a run over a text and a checked text leave.
-use Rattle.std.specs.Prelude.{◌≡◌, true, cond, List, ℕ, suc, ◌+◌, ◌-◌, ◌≤◌, ◌<◌, eqb, ltb, length}
-use Rattle.limits.specs.Limits.{text_bytes}
-use Rattle.limits.specs.Verdicts.{ACCEPTED, TERMS}
-use Rattle.words.specs.Parts.{part}
-use Rattle.paper.specs.Grammar.{Bytes, Line, got, statement}
-use Rattle.paper.specs.Statement.{Statement, numbers_in_range}
-use Rattle.paper.specs.Rules.{State, start}
+use Rattle.std.specs.Prelude.{◌≡◌, List, [], ◌∷◌, ℕ, ◌*◌, ◌≤◌, length}
+use Rattle.limits.specs.Limits.{most_pool_terms, term_words, least_scratch}
+use Rattle.paper.specs.Grammar.{Bytes}
 use Rattle.paper.specs.Answer as paper
-use Rattle.paper.specs.Answer.{items, room_after}
-use Rattle.table.specs.Table.{Packed}
-use Rattle.steps.specs.declared.state.Step.{Step}
-use Rattle.steps.specs.Items.{index_of_read}
+use Rattle.paper.specs.Answer.{room_after}
 use Rattle.checker.specs.declared.answer.Answer.{Answer}
 
 -- the six numbers
 abbrev pub answer_of : Answer → paper.Answer
 answer_of a = record { verdict = a.verdict; line = a.line; index = a.index; products = a.products; polynomials = a.polynomials; terms = a.terms }
 
--- ---- the end of a run: the line that was judged last stands from `at` up to e
-abbrev pub line_at : Bytes → ℕ → ℕ → Line
-line_at text at e = record { content = part at (e - at) text; ended = ltb e (length text) }
+-- in the order in which they are written
+abbrev pub numbers_of : Answer → List ℕ
+numbers_of a = a.verdict ∷ a.line ∷ a.index ∷ a.products ∷ a.polynomials ∷ a.terms ∷ []
 
--- the answer in the state s after n lines, where the last verdict is v, on the line l
-abbrev pub concluded : State → ℕ → ℕ → Line → paper.Answer
-concluded s n v l = cond (eqb v ACCEPTED) (paper.ending s n) (paper.report s v (suc n) (index_of_read v (statement l)))
-
--- what it asks: a refused line stands in the text, and where its index counts it was read
-pub record Concludes (text : Bytes) (from at : ℕ) (r : Step) : Type 0 where
-  pub packed : Packed r.state.table
-  pub early : r.state.lines ≤ text_bytes + 1
-  pub onward : (r.verdict ≡ 0 → ⊥) → from < at
-  pub inside : (r.verdict ≡ 0 → ⊥) → at ≤ length text + 1
-  pub read : (r.verdict ≡ 0 → ⊥) → TERMS ≤ r.verdict
-      → (st : Statement) × (t : Bytes) × (statement (line_at text from (at - 1)) ≡ got st t) × (numbers_in_range st ≡ true)
-
--- ---- the lines were judged in rooms that stay as long
-pub record Ran (capacity : ℕ) (text : Bytes) (pool scratch : List ℕ) (r : Answer) (pool' scratch' : List ℕ) : Type 0 where
-  pub answer : answer_of r ≡ paper.run capacity start 0 (items text)
-  pub pool_length : length pool' ≡ length pool
-  pub scratch_length : length scratch' ≡ length scratch
+-- ---- rooms for so many terms
+pub record Rooms (capacity : ℕ) (pool scratch : List ℕ) : Type 0 where
+  pub words : capacity * term_words ≤ length pool
+  pub most : capacity ≤ most_pool_terms
+  pub least : least_scratch ≤ length scratch
 
 -- the answer of the paper, and the rooms afterwards
 pub record Checked (text : Bytes) (pool scratch : List ℕ) (r : Answer) (pool' scratch' : List ℕ) : Type 0 where

@@ -3,7 +3,7 @@ ghost use Rattle.std.specs.Prelude.{◌≡◌, List, ℕ};
 ghost use Rattle.paper.specs.Answer as paper;
 ghost use Rattle.table.specs.Table.{Packed};
 ghost use Rattle.steps.specs.State.{state_of};
-ghost use Rattle.checker.specs.Checked.{answer_of};
+ghost use Rattle.checker.specs.Checked.{answer_of, numbers_of};
 
 use steps::state::{STEPS, State};
 
@@ -15,6 +15,22 @@ pub struct Answer {
     pub products: u64,
     pub polynomials: u64,
     pub terms: u64,
+}
+
+impl Answer {
+    // The six numbers, in the order in which they are written.
+    pub fn numbers(&self) -> [u64; 6]
+        ensures { result ≡ numbers_of self.now }
+    {
+        [
+            self.verdict,
+            self.line,
+            self.index,
+            self.products,
+            self.polynomials,
+            self.terms,
+        ]
+    }
 }
 
 // Nothing was read.
@@ -32,9 +48,9 @@ pub fn unread(why: u64) -> Answer
 }
 
 // The answer with the counts of this state.
-pub fn report(state: State, verdict: u64, line: u64, index: u64) -> Answer
-    requires { Packed state.table }
-    ensures { (pool scratch : List ℕ) → answer_of result ≡ paper.report (state_of state pool scratch) verdict line index }
+pub fn report(state: &State, verdict: u64, line: u64, index: u64) -> Answer
+    requires { Packed state.now.table }
+    ensures { (pool scratch : List ℕ) → answer_of result ≡ paper.report (state_of state.now pool scratch) verdict line index }
 {
     Answer {
         verdict,
@@ -47,9 +63,9 @@ pub fn report(state: State, verdict: u64, line: u64, index: u64) -> Answer
 }
 
 // The answer behind the last line.
-pub fn ending(state: State) -> Answer
-    requires { Packed state.table }
-    ensures { (pool scratch : List ℕ) → answer_of result ≡ paper.ending (state_of state pool scratch) state.lines }
+pub fn ending(state: &State) -> Answer
+    requires { Packed state.now.table }
+    ensures { (pool scratch : List ℕ) → answer_of result ≡ paper.ending (state_of state.now pool scratch) state.now.lines }
 {
     let n = state.lines;
     if state.phase != STEPS {

@@ -16,21 +16,14 @@ use run::run;
 pub fn capacity(words: usize) -> usize
     ensures { result ≡ paper.capacity_of words }
 {
-    let terms = words / limits::TERM_WORDS;
-    if limits::MOST_POOL_TERMS < terms {
-        return limits::MOST_POOL_TERMS;
-    }
-    terms
+    (words / limits::TERM_WORDS).min(limits::MOST_POOL_TERMS)
 }
 
 // The answer for a text. Pool and scratch are zero afterwards, or untouched where one is too small or the text too long.
 pub fn check(text: &[u8], pool: &mut [u64], scratch: &mut [u64]) -> Answer
     ensures { Checked text.now pool.old scratch.old result pool.new scratch.new }
 {
-    if pool.len() < limits::LEAST_POOL {
-        return unread(limits::SHORT);
-    }
-    if scratch.len() < limits::LEAST_SCRATCH {
+    if pool.len() < limits::LEAST_POOL || scratch.len() < limits::LEAST_SCRATCH {
         return unread(limits::SHORT);
     }
     if limits::TEXT_BYTES < text.len() {

@@ -2,6 +2,8 @@
 
 #![tactic(auto)]
 
+pub mod refusal;
+
 // ---- the width: a set of variables in 64-bit words, and a term, which is its set and then its coefficient
 pub const SET_WORDS: usize = 5;
 

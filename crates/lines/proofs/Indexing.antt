@@ -2,12 +2,12 @@
 use mathlib.Core.Path.{◌≡◌, refl, sym, ap, subst, ◌∙◌}
 use mathlib.Core.Bool.{Bool, true, false, ◌&&◌, cond}
 use mathlib.Core.Logic.{◌⊎◌, inl, inr, ⊎_elim}
-use mathlib.Core.List.{[], ◌∷◌}
-use Prim.Native.Nat.{ℕ, ◌≤◌, ◌<◌}
+use mathlib.Core.List.{◌∷◌}
+use Prim.Native.Nat.{ℕ, ◌≤◌}
 use native.Mathlib.Omega.{arith}
 use lib.Dec.{eqb, ltb}
-use lib.ListN.{length, drop, get_or}
-use lib.Seq.{drop-cons}
+use lib.ListN.{length, drop}
+use Rattle.std.specs.Prelude.{Some, None, slice_get}
 use borrow.Author.Tests.{le-leb, eqb-true, eqb-false}
 use Rattle.ground.proofs.Tests.{split, and_left, by_cond}
 use Rattle.ground.specs.Lists.{every}
@@ -21,10 +21,10 @@ use Rattle.paper.specs.Answer.{Outcome, stands, refused, index_of, judge, judge_
 use Rattle.paper.proofs.Reading.{clash, parted}
 use Rattle.steps.specs.Items.{index_of_read}
 use Rattle.reader.specs.Verdicts.{verdict_of}
-use Rattle.lines.specs.Parts.{always, keyed, pair_ranged, Taken, NumberPart}
+use Rattle.lines.specs.Parts.{always, keyed, pair_ranged, Taken}
 use Rattle.lines.specs.Lines.{short_item}
 use Rattle.lines.specs.declared.part.NumberRead.{NumberRead}
-use Rattle.lines.proofs.LineKinds.{no_kind}
+use Rattle.lines.proofs.LineKinds.{kind_of, no_kind, empty_kind}
 use Rattle.lines.proofs.Statements.{ranged_input, ranged_lin, ranged_del, ranged_ext}
 
 -- ---- only a line with its byte 10 can be read
@@ -63,17 +63,16 @@ numbered w g h s {st} e =
     )
 
 -- ---- what the number of the head is, where the numbers of the line are in range
-module _ (w s : Bytes) (st : Statement) (n : NumberRead) (p : NumberPart (keyed w number) (within 1 greatest_index) s 0 n) where
-  head_index : (u : Bytes) → keyed w number s ≡ got (index_of st) u → is_index (index_of st) ≡ true → n.value ≡ index_of st
+abbrev HeadIs : Bytes → Bytes → ℕ → Type 0
+HeadIs w s n = (i : ℕ) (u : Bytes) → keyed w number s ≡ got i u → is_index i ≡ true → n ≡ i
+
+module _ (w s : Bytes) (i : ℕ) (u : Bytes) (e : keyed w number s ≡ got i u) (h : is_index i ≡ true) where
+  pub head_got : (n : NumberRead) → Taken (keyed w number) (within 1 greatest_index) always (λ j. n.value ≡ j) s 0 n.end n.why → n.value ≡ i
   unfolding is_index first
-  head_index u e h = ⊎_elim (λ f. absurd (clash (sym f.1.reads ∙ e))) took p
-    where
-      took : Taken (keyed w number) (within 1 greatest_index) always (λ i. n.value ≡ i) s 0 n.end n.why → n.value ≡ index_of st
-      took t =
-          let q : keyed w number s ≡ got t.value (drop n.end s) = t.taken.reads in
-          let same : t.value ≡ index_of st = cc in
-          let fine : n.why ≡ ACCEPTED = t.verdict ∙ ap (λ (b : Bool). verdict_of b true) (ap (within 1 greatest_index) same ∙ h) in
-          t.holds fine ∙ same
+  head_got n t =
+      let q : keyed w number s ≡ got t.value (drop n.end s) = t.taken.reads in
+      let same : t.value ≡ i = cc in
+      t.holds (t.verdict ∙ ap (λ (b : Bool). verdict_of b true) (ap (within 1 greatest_index) same ∙ h)) ∙ same
 
 -- ---- the kinds
 in_has : (i : ℕ) (t : Bytes) (x : Statement) (u : Bytes) → next (field t) (λ p. give (input i p)) ≡ got x u → Has i x
@@ -104,36 +103,33 @@ ext_has i t x u e =
     subst (Has i) same (refl, λ r. and_left (is_index i) (is_variable v.value) (and_left (is_index i && is_variable v.value) (in_range p.value) (ranged_ext i v.value p.value ∙ r)))
 
 -- ---- a line that begins with b is of the kind k
-module _ (s : Bytes) (h : 0 < length s) where
-  of_kind : (b : ℕ) (k : LineKind) → ((w : Bytes) → one_of kinds (b ∷ w) ≡ whole_line k (b ∷ w)) → get_or s 0 0 ≡ b → {st : Statement} {t : Bytes}
+module _ (s : Bytes) where
+  of_kind : (b : ℕ) (k : LineKind) → ((w : Bytes) → one_of kinds (b ∷ w) ≡ whole_line k (b ∷ w)) → slice_get s 0 ≡ Some b → {st : Statement} {t : Bytes}
       → statement (record { content = s; ended = true }) ≡ got st t → whole_line k s ≡ got st t
   unfolding statement
-  of_kind b k same e q =
-      let begins : s ≡ b ∷ drop 1 s = drop-cons s 0 0 h ∙ ap (λ (x : ℕ). x ∷ drop 1 s) e in
-      sym (subst (λ (l : Bytes). one_of kinds l ≡ whole_line k l) (sym begins) (same (drop 1 s))) ∙ q
+  of_kind b k same e q = sym (kind_of s b k same e) ∙ q
 
   indexed : (b : ℕ) (w : Bytes) (g : ℕ → Reader Statement) → ((v : Bytes) → one_of kinds (b ∷ v) ≡ whole_line (w, λ t. next (number t) g) (b ∷ v))
-      → ((i : ℕ) (t : Bytes) (x : Statement) (u : Bytes) → g i t ≡ got x u → Has i x) → get_or s 0 0 ≡ b
-      → (n : NumberRead) → NumberPart (keyed w number) (within 1 greatest_index) s 0 n
-      → (st : Statement) (t : Bytes) → statement (record { content = s; ended = true }) ≡ got st t → numbers_in_range st ≡ true → n.value ≡ index_of st
-  indexed b w g same has e n p st t q r =
+      → ((i : ℕ) (t : Bytes) (x : Statement) (u : Bytes) → g i t ≡ got x u → Has i x) → slice_get s 0 ≡ Some b
+      → (n : ℕ) → HeadIs w s n → (st : Statement) (t : Bytes) → statement (record { content = s; ended = true }) ≡ got st t → numbers_in_range st ≡ true → n ≡ index_of st
+  indexed b w g same has e n f st t q r =
       let x = numbered w g has s (of_kind b (w, λ t. next (number t) g) same e q) in
-      head_index w s st n p x.0 x.1 (x.2.1 r)
+      f (index_of st) x.0 x.1 (x.2.1 r)
 
-  module _ (n : NumberRead) (st : Statement) (t : Bytes) (q : statement (record { content = s; ended = true }) ≡ got st t) (r : numbers_in_range st ≡ true) where
-    pub index_input : get_or s 0 0 ≡ 105 → NumberPart (keyed (bytes "in") number) (within 1 greatest_index) s 0 n → n.value ≡ index_of st
+  module _ (n : ℕ) (st : Statement) (t : Bytes) (q : statement (record { content = s; ended = true }) ≡ got st t) (r : numbers_in_range st ≡ true) where
+    pub index_input : slice_get s 0 ≡ Some 105 → HeadIs (bytes "in") s n → n ≡ index_of st
     unfolding kinds one_of begins_alike bytes
     index_input e p = indexed 105 (bytes "in") (λ i t. next (field t) (λ p. give (input i p))) (λ v. refl) in_has e n p st t q r
 
-    pub index_lin : get_or s 0 0 ≡ 108 → NumberPart (keyed (bytes "lin") number) (within 1 greatest_index) s 0 n → n.value ≡ index_of st
+    pub index_lin : slice_get s 0 ≡ Some 108 → HeadIs (bytes "lin") s n → n ≡ index_of st
     unfolding kinds one_of begins_alike bytes
     index_lin e p = indexed 108 (bytes "lin") (λ i t. next (field t) (λ p t. next (pairs t) (λ qs. give (lin i p qs)))) (λ v. refl) lin_has e n p st t q r
 
-    pub index_del : get_or s 0 0 ≡ 100 → NumberPart (keyed (bytes "del") number) (within 1 greatest_index) s 0 n → n.value ≡ index_of st
+    pub index_del : slice_get s 0 ≡ Some 100 → HeadIs (bytes "del") s n → n ≡ index_of st
     unfolding kinds one_of begins_alike bytes
     index_del e p = indexed 100 (bytes "del") (λ i. give (del i)) (λ v. refl) del_has e n p st t q r
 
-    pub index_ext : get_or s 0 0 ≡ 101 → NumberPart (keyed (bytes "ext") number) (within 1 greatest_index) s 0 n → n.value ≡ index_of st
+    pub index_ext : slice_get s 0 ≡ Some 101 → HeadIs (bytes "ext") s n → n ≡ index_of st
     unfolding kinds one_of begins_alike bytes
     index_ext e p = indexed 101 (bytes "ext") (λ i t. next (number t) (λ v t. next (field t) (λ p. give (ext i v p)))) (λ v. refl) ext_has e n p st t q r
 
@@ -154,21 +150,20 @@ module _ (s : Bytes) (h : 0 < length s) where
       let same : goal p.value ≡ st = (let w = p.second in cc) in
       ap index_of same
 
-  pub no_index : (get_or s 0 0 ≡ 105 → ⊥) → (get_or s 0 0 ≡ 108 → ⊥) → (get_or s 0 0 ≡ 100 → ⊥) → (get_or s 0 0 ≡ 101 → ⊥)
+  pub no_index : (b : ℕ) → slice_get s 0 ≡ Some b → (b ≡ 105 → ⊥) → (b ≡ 108 → ⊥) → (b ≡ 100 → ⊥) → (b ≡ 101 → ⊥)
       → (st : Statement) (t : Bytes) → statement (record { content = s; ended = true }) ≡ got st t → 0 ≡ index_of st
-  unfolding kinds one_of begins_alike bytes
-  no_index i l d x st t q =
-      ⊎_elim (λ e. ring_none (of_kind 114 ring_line (λ v. refl) (eqb-true (get_or s 0 0) 114 e) q))
-      (λ r. ⊎_elim (λ e. goal_none (of_kind 103 goal_line (λ v. refl) (eqb-true (get_or s 0 0) 103 e) q))
-      (λ g. absurd (clash (sym (no_kind s h (eqb-false (get_or s 0 0) 114 r) i (eqb-false (get_or s 0 0) 103 g) l d x) ∙ q)))
-      (split (eqb (get_or s 0 0) 103)))
-      (split (eqb (get_or s 0 0) 114))
+  unfolding kinds one_of begins_alike bytes statement
+  no_index b f i l d x st t q =
+      ⊎_elim (λ e. ring_none (of_kind 114 ring_line (λ v. refl) (f ∙ ap Some (eqb-true b 114 e)) q))
+      (λ r. ⊎_elim (λ e. goal_none (of_kind 103 goal_line (λ v. refl) (f ∙ ap Some (eqb-true b 103 e)) q))
+      (λ g. absurd (clash (sym (no_kind s b f (eqb-false b 114 r) i (eqb-false b 103 g) l d x) ∙ q)))
+      (split (eqb b 103)))
+      (split (eqb b 114))
 
--- an empty line is no statement
-pub none_read : (s : Bytes) → length s ≡ 0 → (st : Statement) (t : Bytes) → statement (record { content = s; ended = true }) ≡ got st t → 0 ≡ index_of st
-unfolding statement kinds one_of begins_alike bytes
-none_read [] h st t q = absurd (clash q)
-none_read (b ∷ s) h st t q = absurd (omega (arith, h))
+  -- an empty line is no statement
+  pub none_read : slice_get s 0 ≡ None → (st : Statement) (t : Bytes) → statement (record { content = s; ended = true }) ≡ got st t → 0 ≡ index_of st
+  unfolding statement
+  none_read e st t q = absurd (clash (sym (empty_kind s e) ∙ q))
 
 -- ---- what a refused line reports
 pub reported : (s : Bytes) (ended : Bool) (v i : ℕ) → TERMS ≤ v

@@ -1,27 +1,29 @@
 -- Parts of a line: one part behind another or behind a tab, and numbers. Assumes nothing.
-use mathlib.Core.Path.{◌≡◌, refl, sym, ap, ap₂, ◌∙◌}
+use mathlib.Core.Path.{◌≡◌, refl, sym, ap, ap₂, subst, ◌∙◌}
 use mathlib.Core.Bool.{Bool, true, false, ◌&&◌}
-use mathlib.Core.Logic.{inl, inr, ⊎_elim}
-use Prim.Native.Nat.{ℕ, ◌+◌, ◌≤◌, ◌<◌}
+use mathlib.Core.Logic.{⊎_elim}
+use Prim.Native.Nat.{ℕ, ◌+◌, ◌≤◌}
 use native.Mathlib.Numerals.{add-one}
 use native.Mathlib.Omega.{arith}
-use lib.Dec.{eqb, ltb}
 use lib.ListN.{length, drop, get_or, drop_of_length-le}
 use lib.Seq.{drop-cons}
-use borrow.Author.Tests.{eqb-true, eqb-false, eq-eqb, ne_eqb, ltb-true, ltb-false}
-use Rattle.ground.proofs.Tests.{and_left, and_right}
-use Rattle.limits.specs.Verdicts.{ACCEPTED, FORM}
-use Rattle.paper.specs.Grammar.{Bytes, bytes, Reader, next, give, literal, decimal, tab, number}
+use borrow.Author.Tests.{eq-eqb, ne_eqb}
+use Rattle.std.specs.Prelude.{Some, None, Result, Ok, Err, IsErrAnd}
+use Rattle.limits.specs.Verdicts.{ACCEPTED, NUMBER}
+use Rattle.paper.specs.Grammar.{Bytes, bytes, Reader, next, give, literal, decimal, tab}
 use Rattle.paper.specs.Statement.{within}
 use Rattle.paper.specs.Rules.{first}
-use Rattle.reader.specs.Places.{Got, Fails}
-use Rattle.reader.specs.Numbers.{InRange}
-use Rattle.reader.specs.declared.number.Refusal.{Refusal}
+use Rattle.reader.specs.Places.{Got, Fails, StopsOr}
+use Rattle.reader.specs.Numbers.{InRange, OutOfRange, RangedAt, NumberAt}
+use Rattle.reader.specs.declared.number.Number.{Number}
+use Rattle.reader.specs.Fields.{stands_at}
 use Rattle.reader.specs.Verdicts.{verdict_of, lesser_of}
-use Rattle.reader.proofs.Numbers.{within_yes, RefusedAs}
-use Rattle.reader.proofs.Following.{got_then, got_give, fails_then, fails_first}
-use Rattle.reader.proofs.Verdicts.{verdict_both, verdict_form, lesser_accepted}
-use Rattle.lines.specs.Parts.{always, Taken, Piece}
+use Rattle.reader.specs.declared.stop.Stop.{Stop}
+use Rattle.reader.proofs.Fields.{stands, stands_not}
+use Rattle.reader.proofs.Numbers.{within_yes}
+use Rattle.reader.proofs.Following.{got_then, got_give, fails_then}
+use Rattle.reader.proofs.Verdicts.{verdict_both, lesser_accepted}
+use Rattle.lines.specs.Parts.{Taken, NumberPart}
 
 -- ---- one reader as another
 module _ {A : Type 0} {read read' : Reader A} {s : Bytes} {at : ℕ} (q : read' (drop at s) ≡ read (drop at s)) where
@@ -31,22 +33,21 @@ module _ {A : Type 0} {read read' : Reader A} {s : Bytes} {at : ℕ} (q : read' 
   pub fails_as : {p : ℕ} → Fails read s at p → Fails read' s at p
   fails_as g = record { reads = q ∙ g.reads; onward = g.onward; inside = g.inside }
 
--- ---- a part: it stops, or it is read
-module _ {A : Type 0} {read : Reader A} {ranged few : A → Bool} {P : A → Type 0} {s : Bytes} {at e why : ℕ} where
-  pub took_read : Taken read ranged few P s at e why → why ≡ FORM → ⊥
-  took_read t f = verdict_form (ranged t.value) (few t.value) (sym t.verdict ∙ f)
+-- ---- a reader that stops, as at a `?`
+pub stops_on : {A B : Type 0} {read : Reader A} {s : Bytes} {at : ℕ} (P : B → Type 0) {e : Stop} → Fails read s at e.at → (r : Result B Stop) → IsErrAnd r (λ d. d ≡ e) → StopsOr read s at P r
+stops_on P f (Ok x) h = absurd h
+stops_on {read = read} {s} {at} P f (Err d) h = subst (λ (d : Stop). Fails read s at d.at) (sym h) f
 
-  module _ (p : Piece read ranged few P s at e why) where
-    pub part_stuck : why ≡ FORM → Fails read s at e
-    part_stuck f = ⊎_elim (λ q. q.1) (λ q. absurd (took_read q f)) p
+-- ---- a part behind a reader that gives nothing
+module _ {A : Type 0} {read : Reader A} (before : Reader (Unit {0})) {s : Bytes} {m at : ℕ} (g : Got before s m tt at) where
+  pub taken_behind : {ranged few : A → Bool} {P : A → Type 0} {e why : ℕ} → Taken read ranged few P s at e why → Taken (λ r. next (before r) (λ _. read)) ranged few P s m e why
+  taken_behind t = record { value = t.value; taken = got_then before _ g t.taken; verdict = t.verdict; holds = t.holds }
 
-    pub part_took : (why ≡ FORM → ⊥) → Taken read ranged few P s at e why
-    part_took f = ⊎_elim (λ q. absurd (f q.0)) (λ q. q) p
-
-    -- behind a reader that gives nothing
-    pub part_behind : {m : ℕ} (before : Reader (Unit {0})) → Got before s m tt at → Piece (λ r. next (before r) (λ _. read)) ranged few P s m e why
-    part_behind before g = ⊎_elim (λ q. inl (q.0, fails_then before _ g q.1))
-        (λ q. inr (record { value = q.value; taken = got_then before _ g q.taken; verdict = q.verdict; holds = q.holds })) p
+-- it stops, or it is read
+module _ {A B : Type 0} (read : Reader A) (before : Reader (Unit {0})) {s : Bytes} {m at : ℕ} (g : Got before s m tt at) {P Q : B → Type 0} (f : (x : B) → P x → Q x) where
+  pub stops_behind : (r : Result B Stop) → StopsOr read s at P r → StopsOr (λ r. next (before r) (λ _. read)) s m Q r
+  stops_behind (Ok x) h = f x h
+  stops_behind (Err e) h = fails_then before (λ _. read) g h
 
 -- ---- one part behind another; where either stops, reader's `fails_first` and `fails_then` say so
 module _ {A B : Type 0} (read : Reader A) {ranged few : A → Bool} {P : A → Type 0} (ranged' few' : B → Bool) (R : B → Type 0) {s : Bytes} {at : ℕ} where
@@ -78,60 +79,33 @@ module _ {A B : Type 0} (read : Reader A) {ranged few : A → Bool} {P : A → T
 
 -- ---- tabs
 module _ (s : Bytes) (at : ℕ) where
-  -- whether one stands at a place
-  abbrev pub tabbed : Bool
-  tabbed = ltb at (length s) && eqb (get_or s at 0) 9
-
-  pub tab_inside : tabbed ≡ true → at < length s
-  tab_inside t = ltb-true at (length s) (and_left (ltb at (length s)) (eqb (get_or s at 0) 9) t)
-
-  pub tab_byte : tabbed ≡ true → get_or s at 0 ≡ 9
-  tab_byte t = eqb-true (get_or s at 0) 9 (and_right (ltb at (length s)) (eqb (get_or s at 0) 9) t)
-
-  pub tab_got : tabbed ≡ true → Got tab s at tt (at + 1)
+  pub tab_got : stands_at s at 9 ≡ true → Got tab s at tt (at + 1)
   unfolding tab bytes literal
   tab_got t =
-      let h = tab_inside t in
-      record { reads = rw (drop-cons s at 0 h, eq-eqb (get_or s at 0) 9 (tab_byte t), add-one at); onward = omega arith; inside = omega arith }
+      let h = stands s at 9 t in
+      record { reads = rw (drop-cons s at 0 h.0, eq-eqb (get_or s at 0) 9 h.1, add-one at); onward = omega arith; inside = omega (arith, h.0) }
 
-  tab_not : at < length s → (get_or s at 0 ≡ 9 → ⊥) → Fails tab s at at
+  pub tab_fails : at ≤ length s → stands_at s at 9 ≡ false → Fails tab s at at
   unfolding tab bytes literal
-  tab_not h b = record { reads = rw (drop-cons s at 0 h, ne_eqb (get_or s at 0) 9 b); onward = omega arith; inside = omega arith }
+  tab_fails l t =
+      ⊎_elim (λ h. record { reads = rw (drop-cons s at 0 h.0, ne_eqb (get_or s at 0) 9 h.1); onward = omega arith; inside = l })
+      (λ h. record { reads = rw (drop_of_length-le s h); onward = omega arith; inside = l }) (stands_not s at 9 t)
 
-  tab_end : length s ≤ at → at ≤ length s → Fails tab s at at
-  unfolding tab bytes literal
-  tab_end h l = record { reads = rw (drop_of_length-le s h); onward = omega arith; inside = l }
-
-  pub tab_fails : at ≤ length s → tabbed ≡ false → Fails tab s at at
-  tab_fails l t = go (ltb at (length s)) refl t
-    where
-      go : (b : Bool) → ltb at (length s) ≡ b → (b && eqb (get_or s at 0) 9) ≡ false → Fails tab s at at
-      go true p q = tab_not (ltb-true at (length s) p) (eqb-false (get_or s at 0) 9 q)
-      go false p q = tab_end (ltb-false at (length s) p) l
-
--- ---- numbers
-module _ {low high : ℕ} {s : Bytes} {at : ℕ} where
-  pub number_fine : {v e : ℕ} (x : ℕ) → x ≡ v → InRange decimal low high s at v e → Piece decimal (within low high) always (λ n. x ≡ n) s at e ACCEPTED
+-- ---- numbers: one in its range, and one out of it
+module _ (low high : ℕ) {s : Bytes} {at : ℕ} (n : Number) (r : NumberAt decimal low high s at n) where
+  pub number_fine : {v : ℕ} → n.value ≡ Some v → NumberPart decimal (within low high) s at (Ok (record { value = v; end = n.end; why = ACCEPTED }))
   unfolding first
-  number_fine {v} x q r =
-      inr (record { value = v; taken = r.taken; verdict = ap (λ (b : Bool). verdict_of b true) (sym (within_yes low high v r.above r.below)); holds = λ a. q })
+  number_fine {v} q =
+      let h : InRange decimal low high s at v n.end = subst (RangedAt decimal low high s at n.end) q r in
+      record { value = v; taken = h.taken; verdict = ap (λ (b : Bool). verdict_of b true) (sym (within_yes low high v h.above h.below)); holds = λ a. refl }
 
-  pub number_out : (r : Refusal) (x : ℕ) → RefusedAs decimal low high s at r → Piece decimal (within low high) always (λ n. x ≡ n) s at r.end r.why
+  pub number_out : {x : ℕ} → n.value ≡ None → NumberPart decimal (within low high) s at (Ok (record { value = x; end = n.end; why = NUMBER }))
   unfolding first
-  number_out r x q = ⊎_elim
-      (λ o. inr (record {
-        value = o.1.value;
-        taken = o.1.taken;
-        verdict = o.0 ∙ ap (λ (b : Bool). verdict_of b true) (sym o.1.outside);
-        holds = λ a. absurd (let z : ⊥ = omega (arith, o.0) in z);
-      })) inl q
-
-module _ (s : Bytes) (at : ℕ) where
-  pub number_untabbed : at ≤ length s → tabbed s at ≡ false → Fails number s at at
-  unfolding number
-  number_untabbed l t = fails_first tab _ (tab_fails s at l t)
-
-  pub number_tabbed : {ranged few : ℕ → Bool} {P : ℕ → Type 0} {e why : ℕ} → tabbed s at ≡ true → Piece decimal ranged few P s (at + 1) e why
-      → Piece number ranged few P s at e why
-  unfolding number
-  number_tabbed t p = part_behind p tab (tab_got s at t)
+  number_out q =
+      let h : OutOfRange decimal low high s at n.end = subst (RangedAt decimal low high s at n.end) q r in
+      record {
+        value = h.value;
+        taken = h.taken;
+        verdict = ap (λ (b : Bool). verdict_of b true) (sym h.outside);
+        holds = λ a. absurd (let z : ⊥ = omega arith in z);
+      }

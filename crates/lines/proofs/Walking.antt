@@ -1,49 +1,43 @@
 -- The pairs of a line one by one: each is read, and added to the sum of those before it. Assumes nothing.
 use mathlib.Core.Path.{◌≡◌, refl, sym, ap, ap₂, subst, ◌∙◌}
-use mathlib.Core.Bool.{Bool, true, false, ◌&&◌}
+use mathlib.Core.Bool.{true, false}
 use mathlib.Core.List.{List, [], ◌∷◌, ◌++◌}
 use Prim.Native.Nat.{ℕ, ◌+◌, ◌≤◌}
 use Prim.Native.Char.{code}
 use native.Mathlib.Omega.{arith}
-use lib.Dec.{eqb, ltb}
-use lib.ListN.{length, drop, get_or}
-use borrow.Author.Tests.{ltb-true, ltb-false, eqb-false}
+use lib.ListN.{length, drop}
 use Rattle.ground.specs.Lists.{every}
 use Rattle.ground.proofs.Lists.{every_more}
+use Rattle.std.specs.Prelude.{Result}
 use Rattle.limits.specs.Verdicts.{ACCEPTED}
+use Rattle.limits.specs.declared.refusal.Refusal.{Refusal}
 use Rattle.words.specs.Parts.{Within}
 use Rattle.paper.specs.Grammar.{Bytes, Read, got, stuck, Reader, next, give, tab, pair, more_pairs, pairs}
 use Rattle.paper.specs.Statement.{Written, Pair}
 use Rattle.paper.specs.Rules.{first, Store}
-use Rattle.paper.proofs.Reading.{takes_pair, each_more, each_stuck, each_stop, each_end}
+use Rattle.paper.proofs.Reading.{takes_pair, each_more, each_stuck}
 use Rattle.written.specs.Worded.{Holds}
 use Rattle.scratch.specs.Scratch.{factor_at, goal_at}
 use Rattle.sums.specs.declared.Sum.{Sum}
 use Rattle.sums.specs.Sums.{Summed}
 use Rattle.sums.proofs.Summing.{summed_kept}
 use Rattle.reader.specs.Places.{Fails}
+use Rattle.reader.specs.Fields.{stands_at}
 use Rattle.reader.specs.Verdicts.{verdict_of, lesser_of}
+use Rattle.reader.proofs.Fields.{stands, each_over}
 use Rattle.reader.proofs.Following.{fails_first, ItemsUpTo, passed_none, passed_more, passed_stuck, passed_stop}
 use Rattle.reader.proofs.Verdicts.{verdict_both, lesser_accepted}
 use Rattle.lines.specs.Parts.{pair_ranged, pair_few, Taken}
 use Rattle.lines.specs.declared.part.PairRead.{PairRead}
-use Rattle.lines.proofs.Parts.{got_as, fails_as, tabbed, tab_inside, tab_byte, tab_got, tab_fails}
+use Rattle.lines.proofs.Parts.{got_as, fails_as, tab_got, tab_fails}
 
 -- ---- one pair or more, and as many as follow
 module _ (s : Bytes) (at : ℕ) where
-  -- without a tab none follows
-  no_pair : tabbed s at ≡ false → more_pairs (drop at s) ≡ got [] (drop at s)
-  no_pair t = go (ltb at (length s)) refl t
-    where
-      go : (b : Bool) → ltb at (length s) ≡ b → (b && eqb (get_or s at 0) 9) ≡ false → more_pairs (drop at s) ≡ got [] (drop at s)
-      go true p q = each_stop (code "\t") pair s at (ltb-true at (length s) p) (eqb-false (get_or s at 0) 9 q)
-      go false p q = each_end (code "\t") pair s at (ltb-false at (length s) p)
-
-  pub pairs_untabbed : at ≤ length s → tabbed s at ≡ false → Fails pairs s at at
+  pub pairs_untabbed : at ≤ length s → stands_at s at 9 ≡ false → Fails pairs s at at
   unfolding pairs
   pairs_untabbed l t = fails_first tab _ (tab_fails s at l t)
 
-  module _ (t : tabbed s at ≡ true) where
+  module _ (t : stands_at s at 9 ≡ true) where
     pairs_as : pairs (drop at s) ≡ more_pairs (drop at s)
     unfolding pairs
     pairs_as = ap (λ (r : Read (Unit {0})). next r (λ _ r. next (pair r) behind)) (tab_got s at t).reads ∙ go (pair (drop (at + 1) s)) refl
@@ -52,15 +46,15 @@ module _ (s : Bytes) (at : ℕ) where
         behind q r = next (more_pairs r) (λ qs. give (q ∷ qs))
 
         go : (x : Read Pair) → pair (drop (at + 1) s) ≡ x → next (pair (drop (at + 1) s)) behind ≡ more_pairs (drop at s)
-        go (got q r) e = ap (λ (x : Read Pair). next x behind) e ∙ sym (each_more (code "\t") pair takes_pair s at (tab_inside s at t) (tab_byte s at t) q r e)
-        go (stuck r) e = ap (λ (x : Read Pair). next x behind) e ∙ sym (each_stuck (code "\t") pair s at (tab_inside s at t) (tab_byte s at t) r e)
+        go (got q r) e = ap (λ (x : Read Pair). next x behind) e ∙ sym (each_more (code "\t") pair takes_pair s at (stands s at 9 t).0 (stands s at 9 t).1 q r e)
+        go (stuck r) e = ap (λ (x : Read Pair). next x behind) e ∙ sym (each_stuck (code "\t") pair s at (stands s at 9 t).0 (stands s at 9 t).1 r e)
 
 -- ---- pairs stand from at up to i, with their verdict, and their sum where nothing refuses them
-abbrev pub PairsTo : ℕ → Store → Bytes → ℕ → List ℕ → Sum → ℕ → ℕ → Type 0
+abbrev pub PairsTo : ℕ → Store → Bytes → ℕ → List ℕ → Result Sum Refusal → ℕ → ℕ → Type 0
 PairsTo k store s at words sum why i =
     ItemsUpTo (code "\t") pair (λ qs. (why ≡ verdict_of (every pair_ranged qs) (every pair_few qs)) × (why ≡ ACCEPTED → Summed k store qs words sum)) s at i
 
-pub pairs_none : {k : ℕ} {store : Store} {words : List ℕ} {sum : Sum} (s : Bytes) (at : ℕ) → at ≤ length s → Summed k store [] words sum
+pub pairs_none : {k : ℕ} {store : Store} {words : List ℕ} {sum : Result Sum Refusal} (s : Bytes) (at : ℕ) → at ≤ length s → Summed k store [] words sum
     → PairsTo k store s at words sum ACCEPTED at
 unfolding every first
 pairs_none s at h u = passed_none (code "\t") pair s at h (refl, λ _. u)
@@ -69,18 +63,18 @@ pairs_none s at h u = passed_none (code "\t") pair s at h (refl, λ _. u)
 abbrev PairStands : Bytes → ℕ → List ℕ → PairRead → Type 0
 PairStands s at words r = Taken pair pair_ranged pair_few (λ q. (r.index ≡ q.index) × Holds q.factor r.terms factor_at words) s at r.end r.why
 
-module _ {k : ℕ} {store : Store} {s : Bytes} {at : ℕ} {words : List ℕ} {sum : Sum} {why i : ℕ} (p : PairsTo k store s at words sum why i) where
-  module _ (t : tabbed s i ≡ true) where
-    pub pairs_stuck : {q : ℕ} → tabbed s at ≡ true → Fails pair s (i + 1) q → Fails pairs s at q
-    pairs_stuck a f = fails_as (pairs_as s at a) (passed_stuck (code "\t") pair s at i p (tab_inside s i t) (tab_byte s i t) f)
+module _ {k : ℕ} {store : Store} {s : Bytes} {at : ℕ} {words : List ℕ} {sum : Result Sum Refusal} {why i : ℕ} (p : PairsTo k store s at words sum why i) where
+  module _ (t : stands_at s i 9 ≡ true) where
+    pub pairs_stuck : {q : ℕ} → stands_at s at 9 ≡ true → Fails pair s (i + 1) q → Fails pairs s at q
+    pairs_stuck a f = fails_as (pairs_as s at a) (passed_stuck (code "\t") pair s at i p (stands s i 9 t).0 (stands s i 9 t).1 f)
 
     module _ {words' : List ℕ} (r : PairRead) (u : PairStands s (i + 1) words' r) {why' : ℕ} (c : why' ≡ lesser_of why r.why) where
       -- one pair more, whatever is summed
-      pairs_with : {words'' : List ℕ} {sum' : Sum}
+      pairs_with : {words'' : List ℕ} {sum' : Result Sum Refusal}
           → ((qs : List Pair) → (why ≡ ACCEPTED → Summed k store qs words sum) → why' ≡ ACCEPTED → Summed k store (qs ++ (u.value ∷ [])) words'' sum')
           → PairsTo k store s at words'' sum' why' r.end
       pairs_with f =
-          passed_more (code "\t") pair s at i p (tab_inside s i t) (tab_byte s i t) takes_pair u.taken
+          passed_more (code "\t") pair s at i p (stands s i 9 t).0 (stands s i 9 t).1 takes_pair u.taken
           (λ qs v. (
             c ∙ ap₂ lesser_of v.0 u.verdict ∙ sym (verdict_both (every pair_ranged qs) (pair_ranged u.value) (every pair_few qs) (pair_few u.value))
                 ∙ sym (ap₂ verdict_of (every_more pair_ranged qs u.value) (every_more pair_few qs u.value)),
@@ -88,7 +82,7 @@ module _ {k : ℕ} {store : Store} {s : Bytes} {at : ℕ} {words : List ℕ} {su
           ))
 
       -- they are refused
-      pub pairs_turned : {words'' : List ℕ} {sum' : Sum} → (why' ≡ ACCEPTED → ⊥) → PairsTo k store s at words'' sum' why' r.end
+      pub pairs_turned : {words'' : List ℕ} {sum' : Result Sum Refusal} → (why' ≡ ACCEPTED → ⊥) → PairsTo k store s at words'' sum' why' r.end
       pairs_turned n = pairs_with (λ qs g a. absurd (n a))
 
       -- nothing refuses them
@@ -104,7 +98,7 @@ module _ {k : ℕ} {store : Store} {s : Bytes} {at : ℕ} {words : List ℕ} {su
         pub pairs_ask : ((w : Written) × Holds w r.terms factor_at words') × ((qs : List Pair) × Summed k store qs words' sum)
         pairs_ask = ((u.value.factor, (u.holds both.1).1), (p.items, still_summed p.items p.holds.1))
 
-        pub pairs_more : {words'' : List ℕ} {sum' : Sum}
+        pub pairs_more : {words'' : List ℕ} {sum' : Result Sum Refusal}
             → ((w : Written) → Holds w r.terms factor_at words' → (qs : List Pair) → Summed k store qs words' sum
             → Summed k store (qs ++ (record { index = r.index; factor = w } ∷ [])) words'' sum')
             → PairsTo k store s at words'' sum' why' r.end
@@ -113,6 +107,6 @@ module _ {k : ℕ} {store : Store} {s : Bytes} {at : ℕ} {words : List ℕ} {su
             let q : record { index = r.index; factor = u.value.factor } ≡ u.value = λ j. record { index = h.0 j; factor = u.value.factor } in
             pairs_with (λ qs g _. subst (λ (y : Pair). Summed k store (qs ++ (y ∷ [])) words'' sum') q (added u.value.factor h.1 qs (still_summed qs g)))
 
-  pub pairs_took : tabbed s at ≡ true → tabbed s i ≡ false → Taken pairs (every pair_ranged) (every pair_few) (λ qs. Summed k store qs words sum) s at i why
+  pub pairs_took : stands_at s at 9 ≡ true → stands_at s i 9 ≡ false → Taken pairs (every pair_ranged) (every pair_few) (λ qs. Summed k store qs words sum) s at i why
   pairs_took a t =
-      record { value = p.items; taken = got_as (pairs_as s at a) (passed_stop (code "\t") pair s at i p (no_pair s i t)); verdict = p.holds.0; holds = p.holds.1 }
+      record { value = p.items; taken = got_as (pairs_as s at a) (passed_stop (code "\t") pair s at i p (each_over (code "\t") pair s i t)); verdict = p.holds.0; holds = p.holds.1 }

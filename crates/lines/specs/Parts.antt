@@ -1,16 +1,17 @@
 -- What is read of the parts of a line.
-use Rattle.std.specs.Prelude.{◌≡◌, Bool, true, ◌&&◌, not, List, ◌⊎◌, ℕ, ◌+◌, ◌*◌}
+use Rattle.std.specs.Prelude.{◌≡◌, Bool, true, ◌&&◌, not, List, ℕ, ◌+◌, ◌*◌, Result}
 use Rattle.ground.specs.Lists.{every}
 use Rattle.limits.specs.Limits.{field_terms, term_words}
-use Rattle.limits.specs.Verdicts.{ACCEPTED, FORM}
+use Rattle.limits.specs.Verdicts.{ACCEPTED}
 use Rattle.words.specs.Parts.{Within}
 use Rattle.paper.specs.Grammar.{Bytes, Reader, next, literal, field, pair, pairs}
 use Rattle.paper.specs.Statement.{Written, Pair, is_index, in_range, too_many_terms}
 use Rattle.paper.specs.Rules.{Store}
 use Rattle.written.specs.Worded.{Holds}
-use Rattle.reader.specs.Places.{Got, Fails}
+use Rattle.reader.specs.Places.{Got, StopsOr}
 use Rattle.reader.specs.Verdicts.{verdict_of}
 use Rattle.reader.specs.declared.field.FieldRead.{FieldRead}
+use Rattle.reader.specs.declared.stop.Stop.{Stop}
 use Rattle.scratch.specs.Scratch.{factor_at, goal_at, Kept}
 use Rattle.sums.specs.Sums.{Summed}
 use Rattle.lines.specs.declared.part.NumberRead.{NumberRead}
@@ -37,25 +38,21 @@ pub record Taken {A : Type 0} (read : Reader A) (ranged few : A → Bool) (P : A
   pub verdict : why ≡ verdict_of (ranged value) (few value)
   pub holds : why ≡ ACCEPTED → P value
 
--- or the reader stops at e
-abbrev pub Piece : {A : Type 0} → Reader A → (A → Bool) → (A → Bool) → (A → Type 0) → Bytes → ℕ → ℕ → ℕ → Type 0
-Piece read ranged few P s at e why = ((why ≡ FORM) × Fails read s at e) ⊎ Taken read ranged few P s at e why
+-- ---- the parts, each with what the code gives of it; or its reader stops
+abbrev pub NumberPart : Reader ℕ → (ℕ → Bool) → Bytes → ℕ → Result NumberRead Stop → Type 0
+NumberPart read ranged s at r = StopsOr read s at (λ i. Taken read ranged always (λ n. i.value ≡ n) s at i.end i.why) r
 
--- ---- the parts, each with what the code gives of it
-abbrev pub NumberPart : Reader ℕ → (ℕ → Bool) → Bytes → ℕ → NumberRead → Type 0
-NumberPart read ranged s at r = Piece read ranged always (λ n. r.value ≡ n) s at r.end r.why
-
-pub record FieldPart (s : Bytes) (at base : ℕ) (words words' : List ℕ) (r : FieldRead) : Type 0 where
-  pub part : Piece field in_range few_terms (λ p. Holds p r.terms base words') s at r.end r.why
+pub record FieldPart (s : Bytes) (at base : ℕ) (words words' : List ℕ) (r : Result FieldRead Stop) : Type 0 where
+  pub part : StopsOr field s at (λ f. Taken field in_range few_terms (λ p. Holds p f.terms base words') s at f.end f.why) r
   pub kept : Within base (base + field_terms * term_words) words words'
 
-pub record PairPart (s : Bytes) (at : ℕ) (words words' : List ℕ) (r : PairRead) : Type 0 where
-  pub part : Piece pair pair_ranged pair_few (λ q. (r.index ≡ q.index) × Holds q.factor r.terms factor_at words') s at r.end r.why
+pub record PairPart (s : Bytes) (at : ℕ) (words words' : List ℕ) (r : Result PairRead Stop) : Type 0 where
+  pub part : StopsOr pair s at (λ q. Taken pair pair_ranged pair_few (λ p. (q.index ≡ p.index) × Holds p.factor q.terms factor_at words') s at q.end q.why) r
   pub kept : Within factor_at goal_at words words'
 
 -- the pairs with their sum over a store at k
-pub record PairsPart (k : ℕ) (store : Store) (s : Bytes) (at : ℕ) (words words' : List ℕ) (r : PairsRead) : Type 0 where
-  pub part : Piece pairs (every pair_ranged) (every pair_few) (λ qs. Summed k store qs words' r.sum) s at r.end r.why
+pub record PairsPart (k : ℕ) (store : Store) (s : Bytes) (at : ℕ) (words words' : List ℕ) (r : Result PairsRead Stop) : Type 0 where
+  pub part : StopsOr pairs s at (λ p. Taken pairs (every pair_ranged) (every pair_few) (λ qs. Summed k store qs words' p.sum) s at p.end p.why) r
   pub kept : Kept words words'
 
 -- ---- a keyword before a part

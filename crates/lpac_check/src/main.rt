@@ -6,26 +6,8 @@ ghost use Rattle.std.specs.Prelude.{◌<◌, length};
 ghost use Rattle.limits.specs.Limits.{host_text_bytes};
 ghost use Rattle.program.specs.Program.{Status};
 
-use checker::answer::Answer;
 use std::io::{Read, Write};
 use std::process::ExitCode;
-
-// Writes an answer, and gives the status for it.
-fn say<W: Write, E: Write>(to: &mut W, errors: &mut E, a: Answer) -> u32
-    ensures { Status result }
-{
-    program::say_answer(
-        to,
-        errors,
-        a.verdict,
-        a.line,
-        a.index,
-        a.products,
-        a.polynomials,
-        a.terms,
-        b"lpac_check: the answer cannot be written\n",
-    )
-}
 
 // Reads a text into a room that holds more than is taken, so that a longer text is known by its length, and says the answer.
 fn answer_input<R: Read, W: Write, E: Write>(
@@ -37,12 +19,15 @@ fn answer_input<R: Read, W: Write, E: Write>(
     requires { host_text_bytes < length text.old }
     ensures { Status result }
 {
-    let i = program::read_input(input, text, limits::HOST_TEXT_BYTES);
-    if !i.readable {
+    let Ok(n) = program::read_input(input, text, limits::HOST_TEXT_BYTES) else {
         return program::fail(errors, b"lpac_check: standard input cannot be read\n");
-    }
-    let n = i.bytes;
-    say(to, errors, lpac_host::host_answer(&text[..n]))
+    };
+    program::say_answer(
+        to,
+        errors,
+        lpac_host::host_answer(&text[..n]).numbers(),
+        b"lpac_check: the answer cannot be written\n",
+    )
 }
 
 // The program. Its result is the exit status: 0 where an answer was given, 2 where none was.

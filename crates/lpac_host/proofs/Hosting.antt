@@ -1,5 +1,5 @@
 -- The host calls' numbers: what they are for texts that are too long and for texts that were checked, and how to read them. Assumes nothing.
-use mathlib.Core.Path.{◌≡◌, sym, ap, ap₂, subst, ◌∙◌}
+use mathlib.Core.Path.{◌≡◌, sym, ap₂, subst, ◌∙◌}
 use mathlib.Core.Bool.{true, false, cond}
 use mathlib.Core.List.{List}
 use Prim.Native.Nat.{ℕ, ◌/◌, ◌%◌, ◌≤◌, ◌<◌}
@@ -59,9 +59,6 @@ published_host_bounded k t = limited (bytes_of t) (published_answer k t host_poo
 module _ {a : Answer} {x : paper.Answer} (e : answer_of a ≡ x) where
   pub same_bounds : Bounded host_text_bytes x → Bounded host_text_bytes (answer_of a)
   same_bounds = subst (Bounded host_text_bytes) (sym e)
-
-  pub same_number : {r : ℕ} → r ≡ host_number (answer_of a) → r ≡ host_number x
-  same_number f = f ∙ ap host_number e
 
 -- ---- how to read it: verdict and line are the remainder and the quotient
 module _ {n : ℕ} {a : paper.Answer} (b : Bounded n a) {r : ℕ} (e : r ≡ host_number a) where

@@ -3,14 +3,12 @@
 
 #![tactic(auto)]
 
-ghost use Rattle.std.specs.Prelude.{◌≡◌, ◌<◌, length};
+ghost use Rattle.std.specs.Prelude.{◌<◌, length, IfSome};
 ghost use Rattle.limits.specs.Limits.{host_text_bytes};
 ghost use Rattle.program.specs.Program.{IsPrefixLen, Status};
 ghost use Rattle.lpac_published.specs.RingArgument.{RingArgumentIs};
 
-use checker::answer::Answer;
-use program::Input;
-use reader::number::{Number, number_at};
+use reader::number::number_at;
 use std::env::FillError;
 use std::fs::OpenOptions;
 use std::io::Write;
@@ -26,81 +24,31 @@ const LONGEST_ARGUMENT: usize = 131072;
 // Linux takes no path of more bytes than this, its last 0 among them.
 const PATH_BYTES: usize = 4096;
 
-// Whether a word is a decimal, and the k that stands for it: 0 for all that are out of range.
-#[derive(Drop)]
-struct RingArgument {
-    k: u64,
-    decimal: bool,
-}
-
-// What a word says as K.
-fn ring_argument(word: &[u8]) -> RingArgument
+// The k that stands for what a word says as K, if it is a decimal: 0 for all that are out of range.
+fn ring_argument(word: &[u8]) -> Option<u64>
     ensures { RingArgumentIs word.now result }
 {
-    let n = number_at(word, 0, 1, limits::GREATEST_RING);
-    match n {
-        Number::Value(k, e) => RingArgument {
-            k,
-            decimal: e == word.len(),
-        },
-        Number::Refused(why, e) => {
-            if why != limits::NUMBER {
-                return RingArgument {
-                    k: 0,
-                    decimal: false,
-                };
-            }
-            RingArgument {
-                k: 0,
-                decimal: e == word.len(),
-            }
-        }
+    let Ok(n) = number_at(word, 0, 1, limits::GREATEST_RING) else {
+        return None;
+    };
+    if n.end == word.len() {
+        Some(n.value.unwrap_or(0))
+    } else {
+        None
     }
 }
 
-// An input that cannot be read.
-fn unreadable() -> Input
-    ensures { result.bytes ≡ 0 }
-{
-    Input {
-        bytes: 0,
-        readable: false,
-    }
-}
-
-// Reads the file that an argument names. A missing or overlong argument is no file's name, and one that is not UTF-8 names none here.
-fn read_file(rt: &HostRuntime, argument: usize, room: &mut [u8]) -> Input
+// Reads the file that an argument names, if it can be read. A missing or overlong argument is no file's name, and one that is not UTF-8
+// names none here.
+fn read_file(rt: &HostRuntime, argument: usize, room: &mut [u8]) -> Option<usize>
     requires { host_text_bytes < length room.old }
-    ensures { IsPrefixLen result.bytes room.new }
+    ensures { IfSome result (λ n. IsPrefixLen n room.new) }
 {
     let mut path = [0u8; PATH_BYTES];
-    let Ok(n) = rt.arg(argument, &mut path) else {
-        return unreadable();
-    };
-    let Ok(name) = str::from_utf8(&path[..n]) else {
-        return unreadable();
-    };
-    let Ok(mut file) = rt.open_file(OpenOptions::new().read(true), name) else {
-        return unreadable();
-    };
-    program::read_input(&mut file, room, limits::HOST_TEXT_BYTES)
-}
-
-// Writes an answer, and gives the status for it.
-fn say<W: Write, E: Write>(to: &mut W, errors: &mut E, a: Answer) -> u32
-    ensures { Status result }
-{
-    program::say_answer(
-        to,
-        errors,
-        a.verdict,
-        a.line,
-        a.index,
-        a.products,
-        a.polynomials,
-        a.terms,
-        b"lpac_published: the answer cannot be written\n",
-    )
+    let n = rt.arg(argument, &mut path).ok()?;
+    let name = str::from_utf8(&path[..n]).ok()?;
+    let mut file = rt.open_file(OpenOptions::new().read(true), name).ok()?;
+    program::read_input(&mut file, room, limits::HOST_TEXT_BYTES).ok()
 }
 
 // Reads the files into rooms that hold more than is taken, so that a longer one is known by its length, and says the answer at k.
@@ -116,35 +64,28 @@ fn answer_files<W: Write, E: Write>(
     requires { (host_text_bytes < length constraints.old) × (host_text_bytes < length target.old) × (host_text_bytes < length proof.old) }
     ensures { Status result }
 {
-    let c = read_file(rt, 2, constraints);
-    if !c.readable {
+    let Some(n) = read_file(rt, 2, constraints) else {
         return program::fail(errors, b"lpac_published: the constraints cannot be read\n");
-    }
-    let t = read_file(rt, 3, target);
-    if !t.readable {
+    };
+    let Some(m) = read_file(rt, 3, target) else {
         return program::fail(errors, b"lpac_published: the target cannot be read\n");
-    }
-    let p = read_file(rt, 4, proof);
-    if !p.readable {
+    };
+    let Some(l) = read_file(rt, 4, proof) else {
         return program::fail(errors, b"lpac_published: the proof cannot be read\n");
-    }
-    let n = c.bytes;
-    let m = t.bytes;
-    let l = p.bytes;
-    say(
+    };
+    program::say_answer(
         to,
         errors,
-        lpac_host::published_answer(k, &constraints[..n], &target[..m], &proof[..l]),
+        lpac_host::published_answer(k, &constraints[..n], &target[..m], &proof[..l]).numbers(),
+        b"lpac_published: the answer cannot be written\n",
     )
 }
 
 // Reads K. The room is longer than the system lets an argument be.
-fn read_ring(rt: &HostRuntime) -> RingArgument {
+fn read_ring(rt: &HostRuntime) -> Option<u64> {
     let mut word = [0u8; LONGEST_ARGUMENT];
-    match rt.arg(1, &mut word) {
-        Ok(n) => ring_argument(&word[..n]),
-        Err(_) => ring_argument(b""),
-    }
+    let n = rt.arg(1, &mut word).ok()?;
+    ring_argument(&word[..n])
 }
 
 // Whether there is an argument of this place. No byte of it is read.
@@ -166,25 +107,16 @@ pub fn lpac_published_program<W: Write, E: Write>(
             b"lpac_published: four arguments are asked for, K CONSTRAINTS TARGET PROOF\n",
         );
     }
-    let ring = read_ring(rt);
-    if !ring.decimal {
+    let Some(k) = read_ring(rt) else {
         return program::fail(
             errors,
             b"lpac_published: K is a decimal number without leading zeros\n",
         );
-    }
+    };
     let mut constraints = [0u8; limits::HOST_TEXT_BYTES + 1];
     let mut target = [0u8; limits::HOST_TEXT_BYTES + 1];
     let mut proof = [0u8; limits::HOST_TEXT_BYTES + 1];
-    answer_files(
-        rt,
-        to,
-        errors,
-        ring.k,
-        &mut constraints,
-        &mut target,
-        &mut proof,
-    )
+    answer_files(rt, to, errors, k, &mut constraints, &mut target, &mut proof)
 }
 
 fn main(rt: HostRuntime) -> ExitCode {

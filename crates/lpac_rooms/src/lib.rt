@@ -8,6 +8,8 @@ ghost use Rattle.algebra.specs.Polynomial.{reduce};
 ghost use Rattle.terms.specs.Terms.{decode, Leaves};
 ghost use Rattle.lpac_rooms.specs.Rooms.{Answered};
 
+use words::ring::Ring;
+
 // The six numbers of a text's answer in these rooms, which are left as the check leaves them.
 #[unsafe(no_mangle)]
 pub extern "C" fn lpac_answer(
@@ -16,15 +18,9 @@ pub extern "C" fn lpac_answer(
     scratch: &mut [u64],
     numbers: &mut [u64; 6],
 )
-    ensures { Answered text.now pool.old scratch.old numbers.old pool.new scratch.new numbers.new }
+    ensures { Answered text.now pool.old scratch.old pool.new scratch.new numbers.new }
 {
-    let a = checker::check(text, pool, scratch);
-    numbers[0] = a.verdict;
-    numbers[1] = a.line;
-    numbers[2] = a.index;
-    numbers[3] = a.products;
-    numbers[4] = a.polynomials;
-    numbers[5] = a.terms;
+    *numbers = checker::check(text, pool, scratch).numbers();
 }
 
 // Reduces a run modulo 2 ^ 64 in place, and gives how many terms are left.
@@ -33,5 +29,5 @@ pub extern "C" fn lpac_reduce(run: &mut [u64]) -> usize
     ensures { Leaves (length run.old / term_words) (reduce 64 (decode (length run.old / term_words) run.old)) run.old run.new result }
 {
     let n = run.len() / limits::TERM_WORDS;
-    reduction::reduce(run, n, 64)
+    reduction::reduce(run, n, Ring { k: 64 })
 }

@@ -1,78 +1,75 @@
 -- What a line asks for, by its decimal and the byte behind it; and how far a spelling reaches into the output. Assumes nothing.
-use mathlib.Core.Path.{◌≡◌, refl, sym, ap, ◌∙◌, subst}
-use mathlib.Core.Bool.{Bool, true, false, cond}
+use mathlib.Core.Path.{◌≡◌, refl, sym, ap, ◌∙◌}
+use mathlib.Core.Bool.{true, false}
 use Prim.Native.Nat.{ℕ, ◌+◌, ◌≤◌, ◌<◌}
 use native.Mathlib.Omega.{arith}
-use lib.Dec.{eqb, ltb}
-use lib.ListN.{length, drop, get_or, length-append}
-use borrow.Author.Tests.{lt-ltb, le-ltb, ltb-true, eq-eqb, ne_eqb}
-use Rattle.ground.proofs.Tests.{and_left}
+use lib.ListN.{length, drop, length-append}
+use Rattle.std.proofs.Common.{Option, Some, None, Result, Ok, Err, IfOk}
+use Rattle.std.specs.Result.{result_ok}
+use Rattle.std.proofs.lemmas.Option.{none-some}
+use Rattle.std.specs.Option.{unwrap_or}
 use Rattle.limits.specs.Limits.{greatest_ring}
 use Rattle.paper.specs.Grammar.{Bytes, decimal}
 use Rattle.paper.specs.Spelling.{Spelled, output_after}
-use Rattle.paper.proofs.Reading.{clash}
-use Rattle.reader.specs.Places.{Got, Fails}
-use Rattle.reader.specs.Numbers.{DecimalIs, TooLarge}
-use Rattle.reader.specs.declared.number.Decimal.{Decimal}
-use Rattle.reader.specs.declared.number.Decimal.TheVariants.{Value, Large, Stuck}
+use Rattle.reader.specs.Places.{Got}
+use Rattle.reader.specs.Numbers.{ValueAt, DecimalAt, DecimalIs}
+use Rattle.reader.specs.Fields.{stands_at}
+use Rattle.reader.specs.declared.number.Number.{Number}
+use Rattle.reader.specs.declared.stop.Stop.{Stop}
 use Rattle.reader.proofs.Decided.{same_end}
-use Rattle.speller.specs.Spells.{Gives}
-use Rattle.speller.specs.declared.Spelled.{Spelled as Answer}
-use Rattle.lpac_spell.specs.Asks.{tab_at, behind_tab, Asks, AskedIs}
-use Rattle.lpac_spell.specs.declared.Asked.{Asked}
-use Rattle.lpac_spell.specs.declared.Asked.TheVariants.{Field, Shapeless}
+use Rattle.reader.proofs.Fields.{stands}
+use Rattle.speller.specs.Spells.{Answer, Gives}
+use Rattle.lpac_spell.specs.Asks.{tab_at, AskedIs}
 
-module _ (s : Bytes) (k i : ℕ) where
-  pub tab_end : length s ≤ i → Shapeless ≡ behind_tab s k i
-  unfolding behind_tab tab_at
-  tab_end h = rw (le-ltb i (length s) h)
+-- the byte behind the decimal is a tab, or another
+pub tab_stands : (s : Bytes) (i : ℕ) → stands_at s i 9 ≡ tab_at s i
+unfolding stands_at tab_at
+tab_stands s i = refl
 
-  pub tab_not : i < length s → (get_or s i 0 ≡ 9 → ⊥) → Shapeless ≡ behind_tab s k i
-  unfolding behind_tab tab_at
-  tab_not h b = rw (lt-ltb i (length s) h, ne_eqb (get_or s i 0) 9 b)
+-- a decimal ends at e, and k stands for it
+record StandsFor (s : Bytes) (e k : ℕ) : Type 0 where
+  value : ℕ
+  taken : Got decimal s 0 value e
+  small : value ≤ greatest_ring → k ≡ value
+  large : greatest_ring < value → greatest_ring < k
 
-  pub tab_here : i < length s → get_or s i 0 ≡ 9 → Field k (i + 1) ≡ behind_tab s k i
-  unfolding behind_tab tab_at
-  tab_here h b = rw (lt-ltb i (length s) h, eq-eqb (get_or s i 0) 9 b)
+module _ (s : Bytes) (n : Number) (h : DecimalAt decimal s 0 n) where
+  stands_for : StandsFor s n.end (unwrap_or n.value (greatest_ring + 1))
+  stands_for = go n.value h
+    where
+      go : (o : Option ℕ) → ValueAt decimal s 0 n.end o → StandsFor s n.end (unwrap_or o (greatest_ring + 1))
+      go (Some v) g = record { value = v; taken = g; small = λ l. refl; large = λ l. l }
+      go None t =
+          let b = t.large in
+          record { value = t.value; taken = t.taken; small = λ l. absurd (let z : ⊥ = omega arith in z); large = λ l. omega arith }
 
-tab_inside : (s : Bytes) (i : ℕ) → tab_at s i ≡ true → i < length s
-unfolding tab_at
-tab_inside s i e = ltb-true i (length s) (and_left (ltb i (length s)) (eqb (get_or s i 0) 9) e)
+  pub asks_not : stands_at s n.end 9 ≡ false → AskedIs s None
+  asks_not t m e g u =
+      let y : true ≡ false = sym u ∙ ap (tab_at s) (same_end decimal s 0 g stands_for.taken).1 ∙ sym (tab_stands s n.end) ∙ t in
+      let z : ◌≡◌ {A = ℕ} 0 1 = cc in
+      omega arith
 
--- the decimal n up to e, for which k stands
-asked_behind : (s : Bytes) (n e k : ℕ) → Got decimal s 0 n e → (n ≤ greatest_ring → k ≡ n) → (greatest_ring < n → greatest_ring < k) → AskedIs s (behind_tab s k e)
-unfolding behind_tab
-asked_behind s n e k g small large = go (tab_at s e) refl
-  where
-    go : (b : Bool) → tab_at s e ≡ b → AskedIs s (cond b (Field k (e + 1)) Shapeless)
-    go true t = record { value = n; tab = e; taken = g; tabbed = t; behind = refl; inside = omega (arith, tab_inside s e t); small = small; large = large }
-    go false t = λ m f h u.
-        let y : true ≡ false = sym u ∙ ap (tab_at s) (same_end decimal s 0 h g).1 ∙ t in
-        let z : ◌≡◌ {A = ℕ} 0 1 = cc in
-        omega arith
+  pub asks_some : (k : ℕ) → k ≡ unwrap_or n.value (greatest_ring + 1) → stands_at s n.end 9 ≡ true → AskedIs s (Some (record { k = k; at = n.end + 1 }))
+  asks_some k q t =
+      let v = stands_for in
+      rw q (record {
+        value = v.value;
+        tab = n.end;
+        taken = v.taken;
+        tabbed = sym (tab_stands s n.end) ∙ t;
+        behind = refl;
+        inside = omega (arith, (stands s n.end 9 t).0);
+        small = v.small;
+        large = v.large;
+      })
 
-module _ (s : Bytes) (d : Decimal) (h : DecimalIs decimal s 0 d) where
-  pub value_inside : {v e : ℕ} → d ≡ Value v e → e ≤ length s
-  value_inside {v} {e} q = let g : Got decimal s 0 v e = rw q at h in g.inside
+-- the decimal that was read
+pub decimal_of : (s : Bytes) (r : Result Number Stop) (n : Number) → DecimalIs decimal s 0 r → Some n ≡ result_ok r → DecimalAt decimal s 0 n
+decimal_of s (Ok m) n h q = let e : n ≡ m = cc in rw e h
+decimal_of s (Err e) n h q = absurd (none-some n (sym q))
 
-  pub large_inside : {e : ℕ} → d ≡ Large e → e ≤ length s
-  large_inside {e} q = let g : TooLarge decimal s 0 e = rw q at h in g.taken.inside
-
-  pub asks_value : {v e : ℕ} {r : Asked} → d ≡ Value v e → r ≡ behind_tab s v e → AskedIs s r
-  asks_value {v} {e} q w = subst (AskedIs s) (sym w) (asked_behind s v e v (rw q at h) (λ l. refl) (λ l. l))
-
-  pub asks_large : {e : ℕ} {r : Asked} → d ≡ Large e → r ≡ behind_tab s (greatest_ring + 1) e → AskedIs s r
-  asks_large {e} q w =
-      let g : TooLarge decimal s 0 e = rw q at h in
-      let b = g.large in
-      subst (AskedIs s) (sym w) (asked_behind s g.value e (greatest_ring + 1) g.taken (λ l. absurd (let z : ⊥ = omega arith in z)) (λ l. omega arith))
-
-  pub asks_stuck : {p : ℕ} → d ≡ Stuck p → AskedIs s Shapeless
-  asks_stuck {p} q = let f : Fails decimal s 0 p = rw q at h in λ n e g u. clash (sym f.reads ∙ g.reads)
-
-pub asks_inside : (s : Bytes) (r : Asked) {k at : ℕ} → r ≡ Field k at → AskedIs s r → at ≤ length s
-asks_inside s r {k} {at} q h = let a : Asks s k at = rw q at h in a.inside
-
-pub spelled_inside : {x : Spelled} {out out' : Bytes} {r : Answer} → Gives x out out' r → r.written ≤ length out'
+-- the spelling stands within the output
+pub written_inside : (x : Spelled) {out out' : Bytes} (r : Answer) → Gives x out out' r → IfOk r (λ n. n ≤ length out')
 unfolding output_after
-spelled_inside {x} {out} g = omega (arith, g.written, ap length g.output ∙ length-append x.spelling (drop (length x.spelling) out))
+written_inside x {out} (Ok n) g = omega (arith, g.written, ap length g.output ∙ length-append x.spelling (drop (length x.spelling) out))
+written_inside x (Err why) g = tt

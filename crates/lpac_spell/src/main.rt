@@ -4,65 +4,59 @@
 
 #![tactic(auto)]
 
-ghost use Rattle.std.specs.Prelude.{◌≡◌, ◌≤◌, ◌<◌, length};
+ghost use Rattle.std.specs.Prelude.{◌≤◌, ◌<◌, IfOk, length};
 ghost use Rattle.limits.specs.Limits.{host_text_bytes};
 ghost use Rattle.program.specs.Program.{Status};
-ghost use Rattle.lpac_spell.specs.Asks.{behind_tab, AskedIs};
+ghost use Rattle.lpac_spell.specs.Asks.{AskedIs};
 
-use reader::number::{Decimal, decimal_at};
+use limits::refusal::Refusal;
+use reader::number::decimal_at;
+use reader::term::stands_at;
 use std::io::{Read, Write};
 use std::process::ExitCode;
 
-// A k and the place of the field, or a line of another shape.
+// What a line asks for: the k, and the place of the field to be spelled at it.
 #[derive(Drop)]
-enum Asked {
-    Field(u64, usize),
-    Shapeless,
+struct Asked {
+    k: u64,
+    at: usize,
 }
 
-// The field behind the tab that stands at the place at, to be spelled at k.
-fn behind_tab(line: &[u8], k: u64, at: usize) -> Asked
-    requires { at ≤ length line.now }
-    ensures { result ≡ behind_tab line.now k at }
-{
-    if at == line.len() {
-        return Asked::Shapeless;
-    }
-    if line[at] != b'\t' {
-        return Asked::Shapeless;
-    }
-    Asked::Field(k, at + 1)
-}
-
-// What a line asks for. Every k beyond the greatest has one answer, also where no word holds it.
-fn asks(line: &[u8]) -> Asked
+// What a line asks for, where it has the shape. Every k beyond the greatest has one answer, also where no word holds it.
+fn asks(line: &[u8]) -> Option<Asked>
     ensures { AskedIs line.now result }
 {
-    let d = decimal_at(line, 0);
-    match d {
-        Decimal::Value(k, e) => behind_tab(line, k, e),
-        Decimal::Large(e) => behind_tab(line, limits::GREATEST_RING + 1, e),
-        Decimal::Stuck(_) => Asked::Shapeless,
+    let n = decimal_at(line, 0).ok()?;
+    if !stands_at(line, n.end, b'\t') {
+        return None;
     }
+    Some(Asked {
+        k: n.value.unwrap_or(limits::GREATEST_RING + 1),
+        at: n.end + 1,
+    })
+}
+
+// Spells what a line asks for, and gives how many bytes the spelling has.
+fn spell_line(line: &[u8], scratch: &mut [u64], out: &mut [u8]) -> Result<usize, Refusal>
+    ensures { IfOk result (λ n. n ≤ length out.new) }
+{
+    let asked = asks(line).ok_or(Refusal::Form)?;
+    speller::spell(&line[asked.at..], asked.k, scratch, out)
 }
 
 // Writes an answer, and tells whether it was written.
 fn say<W: Write>(to: &mut W, verdict: u64, spelling: &[u8]) -> bool {
-    write!(to, "{verdict}").is_ok()
-        & to.write_all(b"\t").is_ok()
-        & to.write_all(spelling).is_ok()
-        & to.write_all(b"\n").is_ok()
+    write!(to, "{verdict}\t").is_ok()
+        && to.write_all(spelling).is_ok()
+        && to.write_all(b"\n").is_ok()
 }
 
 // Answers a line.
 fn answer<W: Write>(to: &mut W, line: &[u8], scratch: &mut [u64], out: &mut [u8]) -> bool {
-    let a = asks(line);
-    let Asked::Field(k, at) = a else {
-        return say(to, limits::FORM, b"");
-    };
-    let r = speller::spell(&line[at..], k, scratch, out);
-    let n = r.written;
-    say(to, r.verdict, &out[..n])
+    match spell_line(line, scratch, out) {
+        Ok(n) => say(to, limits::ACCEPTED, &out[..n]),
+        Err(why) => say(to, why.number(), b""),
+    }
 }
 
 // Answers the lines of a text, the last of which may lack its byte 10, as long as answers can be written.
@@ -102,11 +96,9 @@ fn answer_input<R: Read, W: Write, E: Write>(
     requires { host_text_bytes < length text.old }
     ensures { Status result }
 {
-    let i = program::read_input(input, text, limits::HOST_TEXT_BYTES);
-    if !i.readable {
+    let Ok(n) = program::read_input(input, text, limits::HOST_TEXT_BYTES) else {
         return program::fail(errors, b"lpac_spell: standard input cannot be read\n");
-    }
-    let n = i.bytes;
+    };
     program::status(
         errors,
         answer_text(to, &text[..n]),

@@ -1,8 +1,8 @@
 -- Monomials as they are read: a constant or a name, and the names behind it. Assumes nothing.
-use mathlib.Core.Path.{◌≡◌, refl, sym, ap, ap₂, subst, ◌∙◌}
+use mathlib.Core.Path.{◌≡◌, refl, sym, ap, ap₂, ◌∙◌}
 use mathlib.Core.Bool.{Bool, true, false, ◌&&◌, ◌||◌}
 use mathlib.Core.List.{List, [], ◌∷◌, map}
-use mathlib.Core.Logic.{inl, inr, ⊎_elim}
+use mathlib.Core.Logic.{⊎_elim}
 use Prim.Native.Nat.{ℕ, ◌+◌, ◌^◌, ◌≤◌}
 use Prim.Native.Char.{code}
 use native.Mathlib.Numerals.{add-one}
@@ -13,31 +13,31 @@ use lib.ListN.{length, drop, get_or, replicate, length-drop, drop_of_length-le}
 use lib.Seq.{drop-cons}
 use borrow.Author.Tests.{eqb-true, eq-eqb, ne_eqb}
 use Rattle.ground.proofs.Tests.{bool_ext, or_none_left, or_none_right}
-use Rattle.limits.specs.Limits.{set_words, greatest_magnitude}
-use Rattle.limits.specs.Verdicts.{ACCEPTED, FORM}
+use Rattle.std.specs.Prelude.{is_none}
+use Rattle.limits.specs.Limits.{set_words}
+use Rattle.limits.specs.Verdicts.{ACCEPTED}
 use Rattle.algebra.specs.Polynomial.{Term}
 use Rattle.words.specs.Words.{number_of}
 use Rattle.terms.specs.Terms.{term_of}
 use Rattle.written.specs.Worded.{signed_word, worded_term}
 use Rattle.paper.specs.Grammar.{Bytes, got, Reader, ◌>>=◌, give, is_digit}
-use Rattle.paper.specs.Statement.{TermOf, within, set_of, renamed_term}
+use Rattle.paper.specs.Statement.{TermOf, set_of, renamed_term}
 use Rattle.paper.specs.Published.{Name, spaces, constant, name, more_names, monomial, minus}
 use Rattle.paper.proofs.Reading.{each_none}
 use Rattle.paper.proofs.Pieces.{each_empty}
 use Rattle.paper.proofs.PublishedReading.{takes_factor, monomial_constant, monomial_name, monomial_end}
 use Rattle.reader.specs.Places.{Got, Fails}
 use Rattle.reader.specs.Fields.{stands_at}
-use Rattle.reader.proofs.Marks.{verdict_of_law}
 use Rattle.reader.proofs.Following.{got_then, got_give, fails_then, fails_first}
 use Rattle.reader.proofs.Fields.{stands, stands_not}
-use Rattle.named.specs.Reads.{is_at, number_in, NameAt, NamesAt, ConstantAt, MonomialAt, MonomialIs}
+use Rattle.names.specs.declared.numbering.Numbering.{Numbering}
+use Rattle.named.specs.Reads.{is_at, number_in, NameAt, NamesAt, ConstantAt, MonomialAt}
 use Rattle.named.specs.declared.name.NameRead.{NameRead}
 use Rattle.named.specs.declared.monomial.NamesRead.{NamesRead}
 use Rattle.named.specs.declared.monomial.ConstantRead.{ConstantRead}
-use Rattle.named.specs.declared.monomial.MonomialRead.{MonomialRead}
 use Rattle.named.proofs.Tokens.{got_as, fails_as, is_here, is_not}
 use Rattle.named.proofs.Naming.{in_first, names_then, number_stays}
-use Rattle.named.proofs.Factors.{next_name}
+use Rattle.named.proofs.Factors.{next_name, WithNumber, numbered}
 
 -- ---- a sign before the first monomial
 module _ (s : Bytes) (at : ℕ) where
@@ -53,14 +53,6 @@ module _ (s : Bytes) (at : ℕ) where
   unfolding minus
   minus_not l q =
       record { reads = ⊎_elim (λ h. rw (drop-cons s at 0 h.0, ne_eqb (get_or s at 0) 45 h.1)) (λ h. rw (drop_of_length-le s {i = at} h)) (stands_not s at 45 q); onward = omega arith; inside = l }
-
--- ---- one that stops, and one that does not
-pub monomial_form : {plain : Bool} {n : ℕ} {negative : Bool} {s : Bytes} {at : ℕ} {room room' : Bytes} {r : MonomialRead} → MonomialAt plain n negative s at room room' r → r.why ≡ FORM → ⊥
-monomial_form h f = verdict_of_law (within 1 greatest_magnitude h.value.magnitude) (sym h.verdict ∙ f)
-
-pub monomial_stops : (plain : Bool) (n : ℕ) (negative : Bool) (s : Bytes) (at : ℕ) (room room' : Bytes) (r : MonomialRead) {e : ℕ}
-    → (r.end ≡ e) × (r.why ≡ FORM) → Fails (monomial negative) s at e → MonomialIs plain n negative s at room room' r
-monomial_stops plain n negative s at room room' r q f = inl (q.1, subst (λ (k : ℕ). Fails (monomial negative) s at k) (sym q.0) f)
 
 -- ---- behind a constant
 same_term : {x y a b : ℕ} → x ≡ y → a ≡ b → ◌≡◌ {A = Term} (record { set = x; coef = a }) (record { set = y; coef = b })
@@ -80,7 +72,7 @@ none_taken s i e ns g =
         omega (arith, ap length (each_empty (code "*") next_name (drop i s) (drop e s) q), length-drop i s, length-drop e s)
     none (m ∷ ns) q z = absurd (let y : ⊥ = omega arith in y)
 
-module _ (negative : Bool) (s : Bytes) (at : ℕ) (d : is_at is_digit s at ≡ true) (c : ConstantRead) (h : ConstantAt s at c) where
+module _ (negative : Bool) (s : Bytes) (at : ℕ) (d : is_at is_digit s at ≡ true) where
   with_constant : Reader (TermOf Name)
   with_constant = do m ← constant; ns ← more_names; give (record { negative = negative; magnitude = m; variables = ns })
 
@@ -88,23 +80,28 @@ module _ (negative : Bool) (s : Bytes) (at : ℕ) (d : is_at is_digit s at ≡ t
   unfolding with_constant
   by_constant = let k = is_here is_digit s at d in monomial_constant negative s at k.0 k.1
 
-  pub constant_stops : {p : ℕ} → Fails more_names s c.end p → Fails (monomial negative) s at p
+  pub constant_stops : {p : ℕ} → Fails constant s at p → Fails (monomial negative) s at p
   unfolding with_constant
-  constant_stops f = fails_as (monomial negative) with_constant by_constant (fails_then constant _ h.taken (fails_first more_names _ f))
+  constant_stops f = fails_as (monomial negative) with_constant by_constant (fails_first constant _ f)
 
-  pub constant_took : (plain : Bool) (n : ℕ) (room room' : Bytes) (vs : NamesRead) → NamesAt plain n s c.end (number_of (replicate set_words 0)) room room' vs → (coef : ℕ) → coef ≡ signed_word negative c.value
-      → (words : List ℕ) → term_of words ≡ record { set = number_of vs.set; coef = coef }
-      → MonomialIs plain n negative s at room room' (record { term = words; end = vs.end; why = c.why; zero = c.zero && eqb vs.end c.end; names = vs.names; bad = vs.bad })
-  unfolding with_constant number_of worded_term renamed_term
-  constant_took plain n room room' vs k coef ec words q = inr (record {
-    value = record { negative = negative; magnitude = h.value; variables = k.value };
-    taken = got_as (monomial negative) with_constant by_constant (got_then constant _ h.taken (got_then more_names _ k.taken (got_give _ k.taken.inside)));
-    sign = refl;
-    verdict = h.verdict;
-    zero = ap₂ ◌&&◌ h.zero (none_taken s c.end vs.end k.value k.taken);
-    term = λ a b. q ∙ same_term (k.set b ∙ or_zero_l (set_of (map (number_in plain vs.names room') k.value))) (ec ∙ ap (signed_word negative) (h.word a));
-    names = k.names;
-  })
+  module _ (c : ConstantRead) (h : ConstantAt s at c) where
+    pub factors_stop : {p : ℕ} → Fails more_names s c.end p → Fails (monomial negative) s at p
+    unfolding with_constant
+    factors_stop f = fails_as (monomial negative) with_constant by_constant (fails_then constant _ h.taken (fails_first more_names _ f))
+
+    pub constant_took : (old new : Numbering) (vs : NamesRead) → NamesAt old new s c.end (number_of (replicate set_words 0)) vs → (coef : ℕ) → coef ≡ signed_word negative c.value
+        → (words : List ℕ) → term_of words ≡ record { set = number_of vs.set; coef = coef }
+        → MonomialAt old new negative s at (record { term = words; end = vs.end; why = c.why; zero = c.zero && eqb vs.end c.end; bad = vs.bad })
+    unfolding with_constant number_of worded_term renamed_term
+    constant_took old new vs k coef ec words q = record {
+      value = record { negative = negative; magnitude = h.value; variables = k.value };
+      taken = got_as (monomial negative) with_constant by_constant (got_then constant _ h.taken (got_then more_names _ k.taken (got_give _ k.taken.inside)));
+      sign = refl;
+      verdict = h.verdict;
+      zero = ap₂ ◌&&◌ h.zero (none_taken s c.end vs.end k.value k.taken);
+      term = λ a b. q ∙ same_term (k.set b ∙ or_zero_l (set_of (map (number_in new) k.value))) (ec ∙ ap (signed_word negative) (h.word a));
+      names = k.names;
+    }
 
 -- ---- of names
 module _ (negative : Bool) (s : Bytes) (at : ℕ) (d : is_at is_digit s at ≡ false) where
@@ -119,27 +116,28 @@ module _ (negative : Bool) (s : Bytes) (at : ℕ) (d : is_at is_digit s at ≡ f
   unfolding of_names
   name_stops f = fails_as (monomial negative) of_names by_names (fails_first name _ f)
 
-  module _ (plain : Bool) (n : ℕ) (room mid : Bytes) (v : NameRead) (h : NameAt plain n s at room mid v) where
+  module _ (old mid : Numbering) (v : NameRead) (h : NameAt old mid s at v) where
     pub names_stop : {p : ℕ} → Fails more_names s v.end p → Fails (monomial negative) s at p
     unfolding of_names
     names_stop f = fails_as (monomial negative) of_names by_names (fails_then name _ h.taken (fails_first more_names _ f))
 
-    pub names_took : (room' : Bytes) (one : List ℕ) → number_of one ≡ bit_or (2 ^ v.number) (number_of (replicate set_words 0))
-        → (vs : NamesRead) → NamesAt plain v.names s v.end (number_of one) mid room' vs → (coef : ℕ) → coef ≡ signed_word negative 1
+    pub names_took : (new : Numbering) (one : List ℕ) → WithNumber v.number (replicate set_words 0) one
+        → (vs : NamesRead) → NamesAt mid new s v.end (number_of one) vs → (coef : ℕ) → coef ≡ signed_word negative 1
         → (words : List ℕ) → term_of words ≡ record { set = number_of vs.set; coef = coef }
-        → MonomialIs plain n negative s at room room' (record { term = words; end = vs.end; why = ACCEPTED; zero = false; names = vs.names; bad = v.bad || vs.bad })
+        → MonomialAt old new negative s at (record { term = words; end = vs.end; why = ACCEPTED; zero = false; bad = is_none v.number || vs.bad })
     unfolding of_names number_of worded_term renamed_term set_of
-    names_took room' one eo vs k coef ec words q = inr (record {
+    names_took new one eo vs k coef ec words q = record {
       value = record { negative = negative; magnitude = 1; variables = h.value ∷ k.value };
       taken = got_as (monomial negative) of_names by_names (got_then name _ h.taken (got_then more_names _ k.taken (got_give _ k.taken.inside)));
       sign = refl;
       verdict = refl;
       zero = refl;
       term = λ a b.
-          let x = or_none_left v.bad vs.bad b in
-          let y = or_none_right v.bad vs.bad b in
-          let number : v.number ≡ number_in plain vs.names room' h.value = h.number x ∙ sym (number_stays h.names k.names x y h.value (in_first h.value [])) in
-          let first : number_of one ≡ 2 ^ number_in plain vs.names room' h.value = eo ∙ or_zero_r (2 ^ v.number) ∙ ap (λ (i : ℕ). 2 ^ i) number in
-          q ∙ same_term (k.set y ∙ ap (λ (x : ℕ). bit_or x (set_of (map (number_in plain vs.names room') k.value))) first) ec;
+          let x = or_none_left (is_none v.number) vs.bad b in
+          let y = or_none_right (is_none v.number) vs.bad b in
+          let n = numbered v.number x in
+          let number : n.0 ≡ number_in new h.value = h.number n.0 n.1 ∙ sym (number_stays h.names k.names x y h.value (in_first h.value [])) in
+          let first : number_of one ≡ 2 ^ number_in new h.value = eo n.0 n.1 ∙ or_zero_r (2 ^ n.0) ∙ ap (λ (i : ℕ). 2 ^ i) number in
+          q ∙ same_term (k.set y ∙ ap (λ (x : ℕ). bit_or x (set_of (map (number_in new) k.value))) first) ec;
       names = names_then h.names k.names;
-    })
+    }

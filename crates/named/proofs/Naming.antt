@@ -1,24 +1,26 @@
 -- Names read one after the other: which of them are bad, what is held then, and that numbers stay when more names come. Assumes nothing.
-use mathlib.Core.Path.{◌≡◌, refl, sym, ap, ap₂, ◌∙◌}
-use mathlib.Core.Bool.{Bool, true, false, ◌||◌, not, cond}
+use mathlib.Core.Path.{◌≡◌, refl, sym, ap, ap₂, subst, ◌∙◌}
+use mathlib.Core.Bool.{Bool, true, false, ◌||◌, not}
 use mathlib.Core.List.{List, [], ◌∷◌, ◌++◌, map}
 use mathlib.Core.Logic.{⊎_elim}
+use Rattle.std.proofs.Math.Bool.{or-false, or_assoc}
 use Prim.Native.Nat.{ℕ, ◌+◌, ◌<◌}
 use native.Mathlib.Omega.{arith}
 use lib.Dec.{ltb}
 use lib.ListN.{length}
 use borrow.Author.Tests.{ltb-true, not-false}
+use Rattle.std.specs.Prelude.{Option, Some, None, is_none}
 use Rattle.ground.specs.Lists.{any, gather}
 use Rattle.ground.proofs.Tests.{split, cond_yes, cond_no, or_none_left, or_none_right}
 use Rattle.limits.specs.Limits.{name_bytes, variables}
-use Rattle.paper.specs.Grammar.{Bytes}
 use Rattle.paper.specs.Statement.{TermOf, WrittenOf, PairOf, Written, ring, input, goal, lin, del, ext, is_variable, renamed_term, renamed_field, renamed_pair, renamed}
 use Rattle.paper.specs.Published.{Name, Named}
 use Rattle.paper.specs.Named.{names_of, names_in, is_plain, same_name, place_in, with_names}
-use Rattle.paper.proofs.Names.{name_same, is_in, in_append, place_out, place_append, with_old, with_new, with_append, place_kept, name_comes}
+use Rattle.paper.proofs.Names.{never, name_same, is_in, in_append, place_out, place_append, with_old, with_new, with_append, place_kept, name_comes}
 use Rattle.paper.proofs.PlainSpelled.{plain_variable}
-use Rattle.names.specs.Names.{held, Holding, number_by, bad_by, names_with, NumberedIs}
-use Rattle.names.specs.declared.Numbered.{Numbered}
+use Rattle.names.specs.Names.{number_by, bad_by, names_with}
+use Rattle.names.specs.Numbered.{held_by, NumberFor, NumberedIs}
+use Rattle.names.specs.declared.numbering.Numbering.{Numbering}
 use Rattle.named.specs.Reads.{NamesAre, number_in}
 
 -- ---- what f and g give alike for every name of some
@@ -52,11 +54,7 @@ any_alike f g ns h = any_map f ns ∙ ap (any (λ b. b)) (map_alike f g ns h) �
 pub any_append : (f : Name → Bool) (ns os : List Name) → any f (ns ++ os) ≡ (any f ns || any f os)
 unfolding any
 any_append f [] os = refl
-any_append f (n ∷ ns) os = go (f n) (any_append f ns os)
-  where
-    go : (b : Bool) → any f (ns ++ os) ≡ (any f ns || any f os) → (b || any f (ns ++ os)) ≡ ((b || any f ns) || any f os)
-    go true ih = refl
-    go false ih = ih
+any_append f (n ∷ ns) os = ap (λ (b : Bool). f n || b) (any_append f ns os) ∙ sym (or_assoc (f n) (any f ns) (any f os))
 
 -- the names of both parts of a row
 alike_left : {B : Type 0} (f g : Name → B) (ns os : List Name) → Alike f g (ns ++ os) → Alike f g ns
@@ -131,51 +129,20 @@ unfolding with_names
 with_none true ms = refl
 with_none false ms = refl
 
--- ---- the same, read
-pub names_none : (plain : Bool) (n : ℕ) (room : Bytes) → Holding n room → NamesAre plain n [] room room n false
-unfolding any
-names_none plain n room h = record { some = refl; holds = λ _. with_none plain (held n room); holding = h }
+-- ---- the same of lists: ks are held behind ms, and a name of ns is bad or none is
+record Came (plain : Bool) (ms ks ns : List Name) (bad : Bool) : Type 0 where
+  some : bad ≡ any (bad_by plain (names_with plain ms ns)) ns
+  holds : bad ≡ false → ks ≡ names_with plain ms ns
 
-module _ (plain : Bool) (n : ℕ) (s : Name) (room room' : Bytes) (r : Numbered) (h : NumberedIs plain n s room room' r) where
-  pub names_one : NamesAre plain n (s ∷ []) room room' r.names r.bad
-  unfolding any
-  names_one = record { some = h.bad ∙ sym (bad_self plain (held n room) s) ∙ alone (bad_by plain (names_with plain (held n room) (s ∷ [])) s); holds = h.holds; holding = h.holding }
-    where
-      alone : (b : Bool) → b ≡ (b || false)
-      alone true = refl
-      alone false = refl
-
-  pub number_one : r.bad ≡ false → r.number ≡ number_in plain r.names room' s
-  number_one e = h.number e ∙ sym (number_self plain (held n room) s) ∙ ap (λ (ms : List Name). number_by plain ms s) (sym (h.holds e))
-
-pub number_variable : (plain : Bool) (ms : List Name) (s : Name) → bad_by plain ms s ≡ false → is_variable (number_by plain ms s) ≡ true
-number_variable true ms s e = plain_variable s (not-false (is_plain s) e)
-number_variable false ms s e = not-false (is_variable (place_in ms s)) (or_none_right (ltb name_bytes (length s)) (not (is_variable (place_in ms s))) e)
-
--- a name's number, 0 for a bad one, is a variable
-pub number_fits : (plain : Bool) (n : ℕ) (s : Name) (room room' : Bytes) (r : Numbered) → NumberedIs plain n s room room' r → cond r.bad 0 r.number < variables
-unfolding is_variable
-number_fits plain n s room room' r h = go r.bad refl
-  where
-    go : (b : Bool) → r.bad ≡ b → cond b 0 r.number < variables
-    go true e = omega arith
-    go false e = omega (arith, h.number e, ltb-true (number_by plain (held n room) s) variables (number_variable plain (held n room) s (sym h.bad ∙ e)))
-
-module _ {plain : Bool} {n m k : ℕ} {ns os : List Name} {room x room' : Bytes} {b c : Bool} (p : NamesAre plain n ns room x m b) (q : NamesAre plain m os x room' k c) where
-  ms : List Name
-  ms = held n room
-
+module _ (plain : Bool) {ms ks ls ns os : List Name} {b c : Bool} (p : Came plain ms ks ns b) (q : Came plain ks ls os c) where
   -- held behind both
-  both : b ≡ false → names_with plain (held m x) os ≡ names_with plain ms (ns ++ os)
-  unfolding ms
+  both : b ≡ false → names_with plain ks os ≡ names_with plain ms (ns ++ os)
   both e = ap (λ (l : List Name). names_with plain l os) (p.holds e) ∙ sym (with_then plain ms ns os)
 
-  pub names_then : NamesAre plain n (ns ++ os) room room' k (b || c)
-  unfolding ms
-  names_then = record {
+  came_then : Came plain ms ls (ns ++ os) (b || c)
+  came_then = record {
     some = sym (any_append bad ns os ∙ ap (λ (a : Bool). a || any bad os) (sym old) ∙ go b refl);
     holds = λ e. q.holds (or_none_right b c e) ∙ both (or_none_left b c e);
-    holding = q.holding;
   }
     where
       bad : Name → Bool
@@ -188,25 +155,91 @@ module _ {plain : Bool} {n m k : ℕ} {ns os : List Name} {room x room' : Bytes}
       go true e = refl
       go false e = sym (q.some ∙ ap (λ (l : List Name). any (bad_by plain l) os) (both e))
 
-  -- numbers stay
-  pub number_stays : b ≡ false → c ≡ false → Alike (number_in plain k room') (number_in plain m x) ns
-  unfolding ms
-  number_stays e f s i =
+  came_stays : b ≡ false → c ≡ false → Alike (number_by plain ls) (number_by plain ks) ns
+  came_stays e f s i =
       ap (λ (l : List Name). number_by plain l s) (q.holds f ∙ both e ∙ with_then plain ms ns os) ∙ numbers_with plain ms ns os s i
       ∙ ap (λ (l : List Name). number_by plain l s) (sym (p.holds e))
 
-  pub numbers_stay : b ≡ false → c ≡ false → map (number_in plain k room') ns ≡ map (number_in plain m x) ns
+-- ---- the same, read
+pub names_none : (m : Numbering) → NamesAre m m [] false
+unfolding any
+names_none m = record { plain = refl; some = refl; holds = λ _. with_none m.plain (held_by m) }
+
+pub number_variable : (plain : Bool) (ms : List Name) (s : Name) → bad_by plain ms s ≡ false → is_variable (number_by plain ms s) ≡ true
+number_variable true ms s e = plain_variable s (not-false (is_plain s) e)
+number_variable false ms s e = not-false (is_variable (place_in ms s)) (or_none_right (ltb name_bytes (length s)) (not (is_variable (place_in ms s))) e)
+
+module _ (old new : Numbering) (s : Name) where
+  -- a name's number is a variable
+  record OneIs (r : Option ℕ) : Type 0 where
+    bad : is_none r ≡ bad_by old.plain (held_by old) s
+    number : (v : ℕ) → r ≡ Some v → v ≡ number_by old.plain (held_by old) s
+    fits : (v : ℕ) → r ≡ Some v → v < variables
+    holds : is_none r ≡ false → held_by new ≡ names_with old.plain (held_by old) (s ∷ [])
+
+  one_is : (r : Option ℕ) → NumberFor old new s r → OneIs r
+  unfolding is_variable
+  one_is None h = record { bad = sym h.0; number = λ v e. absurd (none_some e); fits = λ v e. absurd (none_some e); holds = λ e. never e }
+    where
+      none_some : {v : ℕ} → ◌≡◌ {A = Option ℕ} None (Some v) → ⊥
+      none_some e = (cc)
+  one_is (Some w) h = record {
+    bad = sym h.0;
+    number = λ v e. sym (same e) ∙ h.1;
+    fits = λ v e. omega (arith, same e, h.1, ltb-true (number_by old.plain (held_by old) s) variables (number_variable old.plain (held_by old) s h.0));
+    holds = λ e. h.2;
+  }
+    where
+      same : {v : ℕ} → ◌≡◌ {A = Option ℕ} (Some w) (Some v) → w ≡ v
+      same e = (cc)
+
+  module _ (r : Option ℕ) (h : NumberedIs old new s r) where
+    one : OneIs r
+    one = one_is r h.number
+
+    pub names_one : NamesAre old new (s ∷ []) (is_none r)
+    unfolding any
+    names_one = record {
+      plain = h.plain;
+      some = one.bad ∙ sym (bad_self old.plain (held_by old) s) ∙ sym (or-false (bad_by old.plain (names_with old.plain (held_by old) (s ∷ [])) s));
+      holds = one.holds;
+    }
+
+    pub number_fits : (v : ℕ) → r ≡ Some v → v < variables
+    number_fits = one.fits
+
+    pub number_one : (v : ℕ) → r ≡ Some v → v ≡ number_in new s
+    number_one v e =
+        let f : is_none r ≡ false = ap is_none e in
+        one.number v e ∙ sym (number_self old.plain (held_by old) s) ∙ ap₂ (λ (t : Bool) (l : List Name). number_by t l s) (sym h.plain) (sym (one.holds f))
+
+module _ {old mid new : Numbering} {ns os : List Name} {b c : Bool} (p : NamesAre old mid ns b) (q : NamesAre mid new os c) where
+  came : Came old.plain (held_by old) (held_by mid) ns b
+  came = record { some = p.some; holds = p.holds }
+
+  comes : Came old.plain (held_by mid) (held_by new) os c
+  comes = subst (λ (t : Bool). Came t (held_by mid) (held_by new) os c) p.plain (record { some = q.some; holds = q.holds })
+
+  pub names_then : NamesAre old new (ns ++ os) (b || c)
+  names_then = let r = came_then old.plain came comes in record { plain = q.plain ∙ p.plain; some = r.some; holds = r.holds }
+
+  -- numbers stay
+  pub number_stays : b ≡ false → c ≡ false → Alike (number_in new) (number_in mid) ns
+  number_stays e f s i =
+      ap (λ (t : Bool). number_by t (held_by new) s) (q.plain ∙ p.plain) ∙ came_stays old.plain came comes e f s i ∙ ap (λ (t : Bool). number_by t (held_by mid) s) (sym p.plain)
+
+  pub numbers_stay : b ≡ false → c ≡ false → map (number_in new) ns ≡ map (number_in mid) ns
   numbers_stay e f = map_alike _ _ ns (number_stays e f)
 
-module _ {plain : Bool} {n m k : ℕ} {os : List Name} {room x room' : Bytes} {b c : Bool} where
-  pub term_stays : (t : TermOf Name) → NamesAre plain n t.variables room x m b → NamesAre plain m os x room' k c → b ≡ false → c ≡ false
-      → renamed_term (number_in plain k room') t ≡ renamed_term (number_in plain m x) t
+module _ {old mid new : Numbering} {os : List Name} {b c : Bool} where
+  pub term_stays : (t : TermOf Name) → NamesAre old mid t.variables b → NamesAre mid new os c → b ≡ false → c ≡ false
+      → renamed_term (number_in new) t ≡ renamed_term (number_in mid) t
   term_stays t p q e f = term_alike _ _ t (number_stays p q e f)
 
-  pub field_stays : (w : WrittenOf Name) → NamesAre plain n (names_of w) room x m b → NamesAre plain m os x room' k c → b ≡ false → c ≡ false
-      → renamed_field (number_in plain k room') w ≡ renamed_field (number_in plain m x) w
+  pub field_stays : (w : WrittenOf Name) → NamesAre old mid (names_of w) b → NamesAre mid new os c → b ≡ false → c ≡ false
+      → renamed_field (number_in new) w ≡ renamed_field (number_in mid) w
   field_stays w p q e f = field_alike _ _ w (number_stays p q e f)
 
-  pub pairs_stay : (qs : List (PairOf Name)) → NamesAre plain n (gather (λ q. names_of q.factor) qs) room x m b → NamesAre plain m os x room' k c → b ≡ false → c ≡ false
-      → map (renamed_pair (number_in plain k room')) qs ≡ map (renamed_pair (number_in plain m x)) qs
+  pub pairs_stay : (qs : List (PairOf Name)) → NamesAre old mid (gather (λ q. names_of q.factor) qs) b → NamesAre mid new os c → b ≡ false → c ≡ false
+      → map (renamed_pair (number_in new)) qs ≡ map (renamed_pair (number_in mid)) qs
   pairs_stay qs p q e f = pairs_alike _ _ qs (number_stays p q e f)

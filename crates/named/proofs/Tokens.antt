@@ -3,6 +3,7 @@ use mathlib.Core.Path.{◌≡◌, refl, sym, ap, ap₂, subst, ◌∙◌}
 use mathlib.Core.Bool.{Bool, true, false, ◌&&◌, ◌||◌, cond}
 use mathlib.Core.List.{[], ◌∷◌, ◌++◌}
 use mathlib.Core.Logic.{◌⊎◌, inl, inr, ⊎_elim}
+use Rattle.std.proofs.Math.Bool.{or_comm, or_assoc}
 use Prim.Native.Nat.{ℕ, suc, ◌+◌, ◌-◌, ◌≤◌, ◌<◌}
 use Prim.Native.Char.{code}
 use native.Mathlib.Numerals.{add-one}
@@ -12,19 +13,16 @@ use lib.ListN.{length, drop, get_or, length-drop, drop_of_length-le}
 use lib.Seq.{drop-cons, take-suc, get_or-drop}
 use borrow.Author.Tests.{leb-true, lt-ltb, le-ltb, ltb-true, ltb-false, eq-eqb, ne_eqb}
 use Rattle.ground.proofs.Tests.{split, and_left, and_right}
-use Rattle.limits.specs.Verdicts.{FORM}
+use Rattle.std.specs.Prelude.{Option, Some, None}
+use Rattle.std.specs.Char.{is_ascii_alphabetic, is_ascii_alphanumeric}
 use Rattle.words.specs.Parts.{part}
 use Rattle.paper.specs.Grammar.{Bytes, got, stuck, Reader, next, literal, is_digit, digits}
 use Rattle.paper.specs.Published.{is_letter, spaces, token, symbol, constant, name_rest}
 use Rattle.paper.proofs.PublishedReading.{rest_more, rest_stop, rest_end}
 use Rattle.reader.specs.Places.{Got, Fails}
-use Rattle.reader.specs.Numbers.{InRange, NumberIs, refused_of}
+use Rattle.reader.specs.Numbers.{RangedAt}
 use Rattle.reader.specs.Fields.{stands_at}
-use Rattle.reader.specs.declared.number.Number.{Number}
-use Rattle.reader.specs.declared.number.Number.TheVariants.{Refused}
-use Rattle.reader.specs.declared.number.Refusal.{Refusal}
-use Rattle.reader.proofs.Numbers.{number_not}
-use Rattle.reader.proofs.Following.{got_then, got_give, fails_first, ReadUpTo, read_none, read_more, read_stop}
+use Rattle.reader.proofs.Following.{got_then, got_give, fails_first, ReadUpTo, read_more, read_stop}
 use Rattle.reader.proofs.Fields.{stands, stands_not}
 use Rattle.named.specs.Reads.{plain_digits, is_at}
 
@@ -56,6 +54,18 @@ module _ (f : ℕ → Bool) (s : Bytes) (at : ℕ) where
       (λ t. let l = ltb-true at (length s) t in inl (l, sym (is_inside l) ∙ e))
       (λ t. inr (ltb-false at (length s) t))
       (split (ltb at (length s)))
+
+-- the library's letters, and its letters and digits
+or_turn : (a b c : Bool) → ((a || b) || c) ≡ ((c || b) || a)
+or_turn a b c = or_comm (a || b) c ∙ ap (λ (t : Bool). c || t) (or_comm a b) ∙ sym (or_assoc c b a)
+
+pub alphabetic : (b : ℕ) → is_ascii_alphabetic b ≡ is_letter b
+unfolding is_letter
+alphabetic b = or_comm (leb 65 b && leb b 90) (leb 97 b && leb b 122)
+
+alphanumeric : (b : ℕ) → is_ascii_alphanumeric b ≡ (is_letter b || is_digit b)
+unfolding is_letter is_digit
+alphanumeric b = or_turn (leb 48 b && leb b 57) (leb 65 b && leb b 90) (leb 97 b && leb b 122)
 
 -- one of two kinds
 pub either_at : (f g : ℕ → Bool) (s : Bytes) (i : ℕ) (x y : Bool) → x ≡ is_at f s i → y ≡ is_at g s i → {t : Bool} → (x || y) ≡ t → is_at (λ b. f b || g b) s i ≡ t
@@ -111,53 +121,34 @@ module _ (low high : ℕ) (s : Bytes) (at : ℕ) where
   constant_got : {v i e : ℕ} → Got plain_digits s at v i → Got spaces s i tt e → Got constant s at v e
   constant_got {v} g h = got_as constant (token plain_digits) (constant_token (drop at s)) (got_then plain_digits _ g (got_then spaces _ h (got_give v h.inside)))
 
-  constant_fails : {p : ℕ} → Fails plain_digits s at p → Fails constant s at p
+  pub constant_fails : {p : ℕ} → Fails plain_digits s at p → Fails constant s at p
   constant_fails f = fails_as constant (token plain_digits) (constant_token (drop at s)) (fails_first plain_digits _ f)
 
-  pub constant_in : {v i e : ℕ} → InRange plain_digits low high s at v i → Got spaces s i tt e → InRange constant low high s at v e
-  constant_in r g = record { above = r.above; below = r.below; taken = constant_got r.taken g }
-
-  module _ {n : Number} {r : Refusal} {why i : ℕ} (h : NumberIs plain_digits low high s at n) (q : n ≡ Refused why i) (z : r ≡ refused_of n) where
-    -- where it is refused
-    pub constant_inside : r.end ≤ length s
-    constant_inside = ⊎_elim (λ x. x.1.taken.inside) (λ x. x.1.inside) (number_not plain_digits low high s at h q z)
-
-    pub constant_stuck : r.why ≡ FORM → NumberIs constant low high s at n
-    constant_stuck f =
-        let p : n ≡ Refused r.why r.end = q ∙ sym (ap (λ (x : Refusal). Refused x.why x.end) (z ∙ ap refused_of q)) in
-        rw p (⊎_elim (λ x. absurd (let y : ⊥ = omega (arith, x.0) in y)) (λ x. inr (x.0, constant_fails x.1)) (number_not plain_digits low high s at h q z))
-
-    pub constant_out : {e : ℕ} → (r.why ≡ FORM → ⊥) → Got spaces s r.end tt e → NumberIs constant low high s at (Refused r.why e)
-    constant_out f g =
-        ⊎_elim
-        (λ x. inl (x.0, record { value = x.1.value; outside = x.1.outside; taken = constant_got x.1.taken g }))
-        (λ x. absurd (f x.0))
-        (number_not plain_digits low high s at h q z)
+  -- the white space behind it is of it
+  pub constant_ranged : {i e : ℕ} (v : Option ℕ) → RangedAt plain_digits low high s at i v → Got spaces s i tt e → RangedAt constant low high s at e v
+  constant_ranged (Some v) r g = record { above = r.above; below = r.below; taken = constant_got r.taken g }
+  constant_ranged None r g = record { value = r.value; outside = r.outside; taken = constant_got r.taken g }
 
 -- ---- the bytes of a name
 abbrev pub NameTo : Bytes → ℕ → ℕ → Type 0
 NameTo s at i = ReadUpTo name_rest (λ n. n ≡ part at (i - at) s) s at i
 
 module _ (s : Bytes) (at : ℕ) where
-  pub name_none : at ≤ length s → NameTo s at at
-  name_none l = read_none name_rest s at l (let z : at - at ≡ 0 = omega arith in rw z)
-
-  module _ (i : ℕ) (p : NameTo s at i) (l d : Bool) (el : l ≡ is_at is_letter s i) (ed : d ≡ is_at is_digit s i) where
-    pub name_inside : (l || d) ≡ true → i < length s
-    name_inside e = (is_here (λ b. is_letter b || is_digit b) s i (either_at is_letter is_digit s i l d el ed e)).0
-
-    pub name_more : (l || d) ≡ true → NameTo s at (i + 1)
-    name_more e =
-        let h = is_here (λ b. is_letter b || is_digit b) s i (either_at is_letter is_digit s i l d el ed e) in
-        let k = h.0 in
+  module _ (i : ℕ) (p : NameTo s at i) where
+    pub name_more : i < length s → is_ascii_alphanumeric (get_or s i 0) ≡ true → NameTo s at (i + 1)
+    name_more k e =
         let o = p.onward in
         let j : i + 1 - at ≡ suc (i - at) = omega arith in
         let w : at + (i - at) ≡ i = omega arith in
         let c : get_or (drop at s) (i - at) 0 ≡ get_or s i 0 = get_or-drop at s (i - at) 0 ∙ ap (λ (k : ℕ). get_or s k 0) w in
-        read_more name_rest s at i p (get_or s i 0) (i + 1) (rest_more s i k h.1) (omega arith) (omega arith)
+        read_more name_rest s at i p (get_or s i 0) (i + 1) (rest_more s i k (sym (alphanumeric (get_or s i 0)) ∙ e)) (omega arith) (omega arith)
         (λ n q. rw (j, take-suc (drop at s) (i - at) 0 (omega (arith, length-drop at s)), c) (ap (λ (x : Bytes). x ++ (get_or s i 0 ∷ [])) q))
 
-    pub name_over : (l || d) ≡ false → Got name_rest s at (part at (i - at) s) i
-    name_over e =
-        subst (λ (n : Bytes). Got name_rest s at n i) p.holds
-        (read_stop name_rest s at i p (⊎_elim (λ h. rest_stop s i h.0 h.1) (λ h. rest_end s i h) (is_not (λ b. is_letter b || is_digit b) s i (either_at is_letter is_digit s i l d el ed e))))
+    over : name_rest (drop i s) ≡ got [] (drop i s) → Got name_rest s at (part at (i - at) s) i
+    over q = subst (λ (n : Bytes). Got name_rest s at n i) p.holds (read_stop name_rest s at i p q)
+
+    pub name_over : i < length s → is_ascii_alphanumeric (get_or s i 0) ≡ false → Got name_rest s at (part at (i - at) s) i
+    name_over k e = over (rest_stop s i k (sym (alphanumeric (get_or s i 0)) ∙ e))
+
+    pub name_all : i ≡ length s → Got name_rest s at (part at (length s - at) s) (length s)
+    name_all e = subst (λ (j : ℕ). Got name_rest s at (part at (j - at) s) j) e (over (rest_end s i (omega arith)))

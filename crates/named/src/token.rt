@@ -7,8 +7,8 @@ ghost use Rattle.reader.specs.Keywords.{WordIs};
 ghost use Rattle.reader.specs.Numbers.{NumberIs};
 ghost use Rattle.named.specs.Reads.{plain_digits, is_at};
 
-use reader::keyword::Word;
-use reader::number::{Decimal, Number, digits_from, outside, refused};
+use reader::number::{Number, digits_from};
+use reader::stop::Stop;
 use reader::term::stands_at;
 
 // Whether a byte is white space.
@@ -23,70 +23,52 @@ pub fn skip_spaces(s: &[u8], at: usize) -> usize
     requires { at ≤ length s.now }
     ensures { Got spaces s.now at tt result }
 {
-    let mut i = at;
-    while i < s.len() {
+    for i in at..s.len() {
         if !is_space(s[i]) {
             return i;
         }
-        i += 1;
     }
-    i
+    s.len()
 }
 
 // The sign b at at.
-pub fn symbol_at(s: &[u8], at: usize, b: u8) -> Word
+pub fn symbol_at(s: &[u8], at: usize, b: u8) -> Result<usize, Stop>
     requires { at ≤ length s.now }
     ensures { WordIs (symbol b) s.now at result }
 {
     if !stands_at(s, at, b) {
-        return Word::Refused(limits::FORM, at);
+        return Err(Stop { at });
     }
-    Word::Read(skip_spaces(s, at + 1))
+    Ok(skip_spaces(s, at + 1))
 }
 
 // Whether a digit stands at at.
 pub fn digit_at(s: &[u8], at: usize) -> bool
     ensures { result ≡ is_at is_digit s.now at }
 {
-    if at < s.len() {
-        return (b'0' <= s[at]) & (s[at] <= b'9');
-    }
-    false
+    at < s.len() && s[at].is_ascii_digit()
 }
 
 // Digits at at as a number from low to high, without the white space behind them.
-fn digits_at(s: &[u8], at: usize, low: u64, high: u64) -> Number
+fn digits_at(s: &[u8], at: usize, low: u64, high: u64) -> Result<Number, Stop>
     requires { at ≤ length s.now }
     ensures { NumberIs plain_digits low high s.now at result }
 {
     if !digit_at(s, at) {
-        return Number::Refused(limits::FORM, at);
+        return Err(Stop { at });
     }
-    let d = digits_from(s, at + 1, (s[at] - b'0') as u64);
-    let Decimal::Value(v, e) = d else {
-        return outside(d);
-    };
-    if v < low {
-        return outside(d);
-    }
-    if high < v {
-        return outside(d);
-    }
-    Number::Value(v, e)
+    let n = digits_from(s, at + 1, (s[at] - b'0') as u64);
+    Ok(n.within(low, high))
 }
 
 // The constant at at, from low to high.
-pub fn constant_at(s: &[u8], at: usize, low: u64, high: u64) -> Number
+pub fn constant_at(s: &[u8], at: usize, low: u64, high: u64) -> Result<Number, Stop>
     requires { at ≤ length s.now }
     ensures { NumberIs constant low high s.now at result }
 {
-    let n = digits_at(s, at, low, high);
-    let Number::Value(v, e) = n else {
-        let r = refused(n);
-        if r.why == limits::FORM {
-            return n;
-        }
-        return Number::Refused(r.why, skip_spaces(s, r.end));
-    };
-    Number::Value(v, skip_spaces(s, e))
+    let n = digits_at(s, at, low, high)?;
+    Ok(Number {
+        value: n.value,
+        end: skip_spaces(s, n.end),
+    })
 }

@@ -1,5 +1,5 @@
 pub mod Comparing
 pub mod Rooms
 pub mod PlainNames
-pub mod Numbering
+pub mod Exits
 pub mod Decided

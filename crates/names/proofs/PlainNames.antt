@@ -1,5 +1,5 @@
 -- Plain names: an x, a decimal, and nothing behind it. Assumes nothing.
-use mathlib.Core.Path.{◌≡◌, refl, sym, ap, ◌∙◌}
+use mathlib.Core.Path.{◌≡◌, refl, sym, ap, subst, ◌∙◌}
 use mathlib.Core.Bool.{Bool, true, false, cond}
 use mathlib.Core.List.{[], ◌∷◌}
 use mathlib.Core.Logic.{⊎_elim}
@@ -7,40 +7,24 @@ use Prim.Native.Nat.{ℕ, ◌-◌, ◌≤◌}
 use Prim.Native.Char.{code}
 use native.Mathlib.Omega.{arith}
 use lib.Dec.{eqb, ltb}
-use lib.ListN.{length, drop, get_or, drop_of_length-le, get_or-eq_default}
+use lib.ListN.{length, drop, get_or, drop_of_length-le}
 use lib.Seq.{drop-length, drop-cons}
-use borrow.Author.Tests.{eqb-true, eqb-false, eq-eqb, ne_eqb, lt-ltb, ltb-true, ltb-false}
-use Rattle.ground.proofs.Tests.{split, by_cond, cond_yes, cond_no}
+use borrow.Author.Tests.{eqb-true, eqb-false, eq-eqb, ne_eqb, lt-ltb, ltb-true}
+use Rattle.std.specs.Prelude.{Some, None, Result, Ok, Err}
+use Rattle.std.specs.Result.{result_ok}
+use Rattle.ground.proofs.Tests.{split, by_cond}
 use Rattle.limits.specs.Limits.{variables}
 use Rattle.paper.specs.Grammar.{Bytes, bytes, Read, got, stuck, next, literal, end, decimal}
 use Rattle.paper.specs.Statement.{is_variable, within}
 use Rattle.paper.specs.Published.{Name}
 use Rattle.paper.specs.Named.{after_x, is_plain, plain_number}
 use Rattle.paper.proofs.Names.{never}
-use Rattle.reader.specs.Numbers.{OutOfRange, NumberIs}
+use Rattle.reader.specs.Places.{Got, Fails}
+use Rattle.reader.specs.Numbers.{InRange, OutOfRange, NumberAt, NumberIs}
 use Rattle.reader.specs.declared.number.Number.{Number}
-use Rattle.reader.specs.declared.number.Number.TheVariants.{Value as Ranged, Refused}
-use Rattle.reader.proofs.Numbers.{within_yes, number_got}
-use Rattle.names.specs.Names.{behind_x, PlainIs}
-
--- ---- `behind_x`
-module _ (s : Name) where
-  pub behind_other : (get_or s 0 0 ≡ code "x" → ⊥) → length s ≡ behind_x s
-  behind_other d = sym (cond_no (eqb (get_or s 0 0) 120) 1 (length s) (ne_eqb (get_or s 0 0) 120 d))
-
-  pub behind_empty : length s ≡ 0 → 0 ≡ behind_x s
-  behind_empty e =
-      let z : get_or s 0 0 ≡ 0 = get_or-eq_default s 0 {n = 0} (omega arith) in
-      sym e ∙ behind_other (λ q. let y : ⊥ = omega arith in y)
-
-  pub behind_yes : get_or s 0 0 ≡ code "x" → 1 ≡ behind_x s
-  behind_yes e = sym (cond_yes (eqb (get_or s 0 0) 120) 1 (length s) (eq-eqb (get_or s 0 0) 120 e))
-
-  pub behind_inside : (a : ℕ) → a ≡ behind_x s → a ≤ length s
-  behind_inside a e = rw e (by_cond (λ (i : ℕ). i ≤ length s) (eqb (get_or s 0 0) 120) (λ t. some (eqb-true (get_or s 0 0) 120 t)) (λ _. omega arith))
-    where
-      some : get_or s 0 0 ≡ 120 → 1 ≤ length s
-      some q = ⊎_elim (λ t. omega (arith, get_or-eq_default s 0 {n = 0} (omega (arith, ltb-true (length s) 1 t)))) (λ t. ltb-false (length s) 1 t) (split (ltb (length s) 1))
+use Rattle.reader.specs.declared.stop.Stop.{Stop}
+use Rattle.reader.proofs.Numbers.{within_yes}
+use Rattle.names.specs.Names.{behind_x}
 
 -- ---- what is left to read behind the x
 to_end : Read ℕ → Read ℕ
@@ -93,33 +77,41 @@ end_at s v e h = go (eqb e (length s)) refl
     go true q = rw (drop_of_length-le s {i = e} (omega (arith, eqb-true e (length s) q)))
     go false q = let d : e ≡ length s → ⊥ = eqb-false e (length s) q in rw (drop-cons s e 0 (omega arith))
 
+-- ---- a number's answer taken apart
+module _ (low high : ℕ) (s : Bytes) (at : ℕ) where
+  pub number_stops : (r : Result Number Stop) → None ≡ result_ok r → NumberIs decimal low high s at r → (p : ℕ) × Fails decimal s at p
+  number_stops (Ok n) q h = absurd (let y : ⊥ = (cc) in y)
+  number_stops (Err e) q h = (e.at, h)
+
+  pub number_reads : {d : Number} (r : Result Number Stop) → Some d ≡ result_ok r → NumberIs decimal low high s at r → NumberAt decimal low high s at d
+  number_reads {d} (Ok n) q h = let e : n ≡ d = (cc) in rw (← e) h
+  number_reads (Err e) q h = absurd (let y : ⊥ = (cc) in y)
+
 -- ---- `plain_number`
 no_variable : (v : ℕ) → within 0 (variables - 1) v ≡ false → is_variable v ≡ false
 unfolding is_variable
 no_variable v o = ⊎_elim (λ t. never (sym (within_yes 0 (variables - 1) v (omega arith) (omega (arith, ltb-true v variables t))) ∙ o)) (λ t. t) (split (ltb v variables))
 
 module _ (s : Name) (at : ℕ) (q : at ≡ behind_x s) where
-  pub plain_read : {n : Number} {v e : ℕ} → NumberIs decimal 0 (variables - 1) s at n → n ≡ Ranged v e → PlainIs s (record { number = v; plain = eqb e (length s) })
-  unfolding is_variable
-  plain_read {v = v} {e = e} h f =
-      let r = number_got decimal 0 (variables - 1) s at h f in
-      let g = r.taken in
-      let t : SaysPlain s (cond (eqb e (length s)) (got v []) (stuck (drop e s))) = rw (← end_at s v e g.inside) (tells_behind s (got v (drop e s)) (rw (← q) g.reads)) in
-      go (eqb e (length s)) r.below t
-    where
-      go : (b : Bool) → v ≤ variables - 1 → SaysPlain s (cond b (got v []) (stuck (drop e s))) → (b ≡ is_plain s) × (b ≡ true → v ≡ plain_number s)
-      go true l t = (sym (t.plain ∙ lt-ltb v variables (omega arith)), λ _. sym t.number)
-      go false l t = (sym t.plain, λ x. never (sym x))
+  -- what is read up to the end or not tells
+  told : {v e : ℕ} → Got decimal s at v e → SaysPlain s (cond (eqb e (length s)) (got v []) (stuck (drop e s)))
+  told {v} {e} g = rw (← end_at s v e g.inside) (tells_behind s (got v (drop e s)) (rw (← q) g.reads))
 
-  pub plain_refused : {n : Number} {why e : ℕ} → NumberIs decimal 0 (variables - 1) s at n → n ≡ Refused why e → PlainIs s (record { number = 0; plain = false })
+  pub plain_stuck : {p : ℕ} → Fails decimal s at p → is_plain s ≡ false
   unfolding to_end
-  plain_refused {why = why} {e = e} h f =
-      let r : NumberIs decimal 0 (variables - 1) s at (Refused why e) = rw f at h in
-      (⊎_elim (λ x. outside x.1) (λ x. sym (tells_behind s (stuck (drop e s)) (rw (← q) x.1.reads)).plain) r, λ x. never (sym x))
-    where
-      outside : OutOfRange decimal 0 (variables - 1) s at e → false ≡ is_plain s
-      outside x =
-          let g = x.taken in
-          let w : is_plain s ≡ tells_plain (cond (eqb e (length s)) (got x.value []) (stuck (drop e s)))
-          = (tells_behind s (got x.value (drop e s)) (rw (← q) g.reads)).plain ∙ ap tells_plain (end_at s x.value e g.inside) in
-          sym (w ∙ by_cond (λ (d : Read ℕ). tells_plain d ≡ false) (eqb e (length s)) (λ _. no_variable x.value x.outside) (λ _. refl))
+  plain_stuck {p} f = (tells_behind s (stuck (drop p s)) (rw (← q) f.reads)).plain
+
+  pub plain_out : {e : ℕ} → OutOfRange decimal 0 (variables - 1) s at e → is_plain s ≡ false
+  plain_out {e} x =
+      (told x.taken).plain ∙ by_cond (λ (d : Read ℕ). tells_plain d ≡ false) (eqb e (length s)) (λ _. no_variable x.value x.outside) (λ _. refl)
+
+  module _ {v e : ℕ} (r : InRange decimal 0 (variables - 1) s at v e) where
+    pub plain_left : (e ≡ length s → ⊥) → is_plain s ≡ false
+    plain_left d = (subst (λ (b : Bool). SaysPlain s (cond b (got v []) (stuck (drop e s)))) (ne_eqb e (length s) d) (told r.taken)).plain
+
+    pub plain_read : e ≡ length s → (is_plain s ≡ true) × (v ≡ plain_number s)
+    unfolding is_variable
+    plain_read d =
+        let t : SaysPlain s (got v []) = subst (λ (b : Bool). SaysPlain s (cond b (got v []) (stuck (drop e s)))) (eq-eqb e (length s) d) (told r.taken) in
+        let b = r.below in
+        (t.plain ∙ lt-ltb v variables (omega arith), sym t.number)

@@ -9,16 +9,16 @@ use native.Mathlib.Numerals.{add-one}
 use native.Mathlib.Omega.{arith}
 use lib.Dec.{ltb}
 use lib.ListN.{length, drop, get_or, set, length-append, length-set, get_or-append}
-use lib.Seq.{get_or-take, get_or_at, take-set-le, drop-set-lt, get_or-set_same, paste, length-paste, take-length}
+use lib.Seq.{get_or-take, get_or_at, take-set-le, drop-set-lt, get_or-set_same, paste, take-length}
 use borrow.Author.Tests.{ltb-true, ltb-false}
 use Rattle.ground.proofs.Tests.{split}
 use Rattle.limits.specs.Limits.{name_bytes, variables}
 use Rattle.words.specs.Parts.{part, Within}
-use Rattle.words.proofs.Parts.{within_trans, within_wider, below_kept, paste_within, part_paste, paste_more}
+use Rattle.words.proofs.Parts.{within_trans, within_wider, below_kept, paste_within, part_paste}
 use Rattle.paper.specs.Grammar.{Bytes}
 use Rattle.paper.specs.Published.{Name}
 use Rattle.paper.specs.Named.{same_name, place_in, with_names}
-use Rattle.paper.proofs.Names.{same_name_law, is_in, place_in_law, place_out, place_here, place_further, place_behind, with_new, once_with}
+use Rattle.paper.proofs.Names.{same_name_law, is_in, place_here, place_further, place_behind, with_new, once_with}
 use Rattle.names.specs.Names.{slot_bytes, name_in, held, Holding, HeldBehind}
 
 pub length_held : (n : ℕ) (room : Bytes) → length (held n room) ≡ n
@@ -38,13 +38,6 @@ held_at (suc n) room i h = ⊎_elim (λ t. let l = ltb-true i n t in before l (h
     last l =
         let e : n ≡ i = omega arith in
         get_or_at (held n room) (name_in room n) [] [] i (length_held n room ∙ e) ∙ ap (name_in room) e
-
-pub place_most : (n : ℕ) (room : Bytes) (s : Name) → place_in (held n room) s ≤ n
-place_most n room s =
-    ⊎_elim
-    (λ t. omega (arith, place_in_law (held n room) s t, length_held n room))
-    (λ t. omega (arith, place_out (held n room) s t, length_held n room))
-    (split (is_in (held n room) s))
 
 -- no other place is that of the i-th
 pub alone_at : (n : ℕ) (room : Bytes) (s : Name) (i : ℕ) → Holding n room → i < n → same_name (name_in room i) s ≡ true → i ≡ place_in (held n room) s
@@ -92,35 +85,25 @@ set_within : (a e : ℕ) (s : Bytes) (i x : ℕ) → a ≤ i → i < e → Withi
 set_within a e s i x h k = record { before = take-set-le a s i x h; after = drop-set-lt e s i x k; same = length-set s i x }
 
 module _ (n : ℕ) (room : Bytes) (name : Name) (l : n < variables) (k : length name ≤ name_bytes) (f : variables * slot_bytes ≤ length room) where
-  -- as far as its first j bytes
-  abbrev pub put_to : ℕ → Bytes
-  put_to j = paste (set room (n * slot_bytes) (length name)) (n * slot_bytes + 1) name j
+  -- with its bytes
+  abbrev pub put : Bytes
+  put = paste (set room (n * slot_bytes) (length name)) (n * slot_bytes + 1) name (length name)
 
-  pub put_more : (j : ℕ) (r : Bytes) → j < length name → r ≡ put_to j → set r (n * slot_bytes + 1 + j) (get_or name j 0) ≡ put_to (j + 1)
-  put_more j r h e =
-      ap (λ (x : Bytes). set x (n * slot_bytes + 1 + j) (get_or name j 0)) e
-      ∙ paste_more (set room (n * slot_bytes) (length name)) (n * slot_bytes + 1) name j (omega (arith, length-set room (n * slot_bytes) (length name))) h
-
-  pub put_same : (j : ℕ) (r : Bytes) → j ≤ length name → r ≡ put_to j → length r ≡ length room
-  put_same j r h e =
-      let s = length-set room (n * slot_bytes) (length name) in
-      ap length e ∙ length-paste (set room (n * slot_bytes) (length name)) (n * slot_bytes + 1) name j (omega arith) h ∙ s
-
-  pub put_all : (j : ℕ) (r : Bytes) → j ≡ length name → r ≡ put_to j → HeldBehind n name room r
-  put_all j r q e =
+  pub put_all : HeldBehind n name room put
+  put_all =
       let at : ℕ = n * slot_bytes in
       let m : Bytes = set room at (length name) in
       let g : at + 1 + length name ≤ length m = omega (arith, length-set room at (length name)) in
-      let w : Within (at + 1) (at + 1 + length name) m (put_to (length name)) = paste_within m (at + 1) name (length name) g (omega arith) in
-      let size : get_or (put_to (length name)) at 0 ≡ length name =
-      sym (get_or-take (at + 1) (put_to (length name)) at 0 (omega arith)) ∙ ap (λ (x : Bytes). get_or x at 0) w.before ∙ get_or-take (at + 1) m at 0 (omega arith)
+      let w : Within (at + 1) (at + 1 + length name) m put = paste_within m (at + 1) name (length name) g (omega arith) in
+      let size : get_or put at 0 ≡ length name =
+      sym (get_or-take (at + 1) put at 0 (omega arith)) ∙ ap (λ (x : Bytes). get_or x at 0) w.before ∙ get_or-take (at + 1) m at 0 (omega arith)
       ∙ get_or-set_same room at (length name) 0 (omega arith) in
-      rw (e, q) (record {
+      record {
         within = within_trans (set_within at ((n + 1) * slot_bytes) room at (length name) (omega arith) (omega arith))
-            (within_wider at (at + 1) (at + 1 + length name) ((n + 1) * slot_bytes) m (put_to (length name)) (omega arith) (omega arith) w);
+            (within_wider at (at + 1) (at + 1 + length name) ((n + 1) * slot_bytes) m put (omega arith) (omega arith) w);
         size = size;
-        bytes = ap (λ (i : ℕ). part (at + 1) i (put_to (length name))) size ∙ part_paste m (at + 1) name (length name) g (omega arith) ∙ take-length name;
-      })
+        bytes = ap (λ (i : ℕ). part (at + 1) i put) size ∙ part_paste m (at + 1) name (length name) g (omega arith) ∙ take-length name;
+      }
 
 module _ (n : ℕ) (room room' : Bytes) (name : Name) (h : Holding n room) (p : HeldBehind n name room room') where
   pub put_held : held (n + 1) room' ≡ held n room ++ (name ∷ [])

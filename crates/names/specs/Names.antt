@@ -1,5 +1,5 @@
 -- Names held in a lent room, and their numbers.
-use Rattle.std.specs.Prelude.{◌≡◌, Bool, true, false, ◌||◌, not, cond, List, [], ◌∷◌, ◌++◌, ℕ, zero, suc, ◌+◌, ◌*◌, ◌≤◌, ◌<◌, eqb, ltb, length, get_or}
+use Rattle.std.specs.Prelude.{◌≡◌, Bool, true, false, ◌||◌, not, cond, List, [], ◌∷◌, ◌++◌, ℕ, zero, suc, ◌+◌, ◌*◌, ◌≤◌, ◌<◌, max, eqb, ltb, length, get_or, Option, Some, None}
 use Prim.Native.Char.{code}
 use Rattle.limits.specs.Limits.{name_bytes, variables}
 use Rattle.words.specs.Parts.{part, Within}
@@ -7,8 +7,6 @@ use Rattle.paper.specs.Grammar.{Bytes}
 use Rattle.paper.specs.Statement.{is_variable}
 use Rattle.paper.specs.Published.{Name}
 use Rattle.paper.specs.Named.{plain_number, is_plain, place_in, with_names}
-use Rattle.names.specs.declared.Numbered.{Numbered}
-use Rattle.names.specs.declared.Plain.{Plain}
 
 -- ---- the room: as many bytes a name, the first of them its length
 abbrev pub slot_bytes : ℕ
@@ -47,20 +45,20 @@ module _ (plain : Bool) (ms : List Name) where
   abbrev pub names_with : List Name → List Name
   names_with ns = cond plain ms (with_names ms ns)
 
+-- of n names that are held: the name is bad and nothing changes; or it has a place, and is held there
+abbrev pub PlaceIs : ℕ → Name → Bytes → Bytes → Option ℕ → Type 0
+PlaceIs n name room room' None = (bad_by false (held n room) name ≡ true) × (room' ≡ room)
+PlaceIs n name room room' (Some i) =
+    (bad_by false (held n room) name ≡ false) × (i ≡ place_in (held n room) name) × (held (max n (i + 1)) room' ≡ names_with false (held n room) (name ∷ [])) × Holding (max n (i + 1)) room'
+
 -- where the decimal of a plain name begins: behind its x; the end of a name without one
 abbrev pub behind_x : Name → ℕ
 behind_x n = cond (eqb (get_or n 0 0) (code "x")) 1 (length n)
 
-abbrev pub PlainIs : Name → Plain → Type 0
-PlainIs n r = (r.plain ≡ is_plain n) × (r.plain ≡ true → r.number ≡ plain_number n)
-
--- the name is bad and nothing changes; or it has its number, and is held. n names are held before
-pub record NumberedIs (plain : Bool) (n : ℕ) (name : Name) (room room' : Bytes) (r : Numbered) : Type 0 where
-  pub bad : r.bad ≡ bad_by plain (held n room) name
-  pub unchanged : r.bad ≡ true → (room' ≡ room) × (r.names ≡ n)
-  pub number : r.bad ≡ false → r.number ≡ number_by plain (held n room) name
-  pub holds : r.bad ≡ false → held r.names room' ≡ names_with plain (held n room) (name ∷ [])
-  pub holding : Holding r.names room'
+-- the number of a plain name; none of another
+abbrev pub PlainIs : Name → Option ℕ → Type 0
+PlainIs n None = is_plain n ≡ false
+PlainIs n (Some v) = (is_plain n ≡ true) × (v ≡ plain_number n)
 
 -- ---- where a name is looked for first
 abbrev pub hint_count : ℕ

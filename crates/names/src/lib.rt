@@ -2,12 +2,14 @@
 
 #![tactic(auto)]
 
-ghost use Rattle.std.specs.Prelude.{◌≡◌, true, false, ◌*◌, ◌≤◌, ◌<◌, length, get_or};
+pub mod numbering;
+
+ghost use Rattle.std.specs.Prelude.{◌≡◌, ◌*◌, ◌≤◌, ◌<◌, length, get_or, MatchOption};
 ghost use Rattle.limits.specs.Limits.{name_bytes, variables};
 ghost use Rattle.paper.specs.Named.{same_name, place_in};
-ghost use Rattle.names.specs.Names.{slot_bytes, name_in, held, Holding, HeldBehind, behind_x, PlainIs, NumberedIs, hint_count};
+ghost use Rattle.names.specs.Names.{slot_bytes, name_in, held, Holding, HeldBehind, PlaceIs, behind_x, PlainIs, hint_count};
 
-use reader::number::{Number, number_at};
+use reader::number::number_at;
 
 // The bytes of a held name: its length, and then the name.
 pub const SLOT: usize = limits::NAME_BYTES + 1;
@@ -18,53 +20,27 @@ pub const ROOM: usize = limits::VARIABLES as usize * SLOT;
 // Where a name is looked for first, by its bytes: only how soon it is found depends on it.
 pub const HINTS: usize = 4096;
 
-// A name's number, and how many names are held with it; or whether it is bad.
-#[derive(Drop)]
-pub struct Numbered {
-    pub number: usize,
-    pub names: usize,
-    pub bad: bool,
-}
-
-// Whether a name is x and a decimal in the range of variables, and that decimal.
-#[derive(Drop)]
-pub struct Plain {
-    pub number: usize,
-    pub plain: bool,
-}
-
 // Whether the i-th name of a room is s.
 fn is_name(room: &[u8], i: usize, s: &[u8]) -> bool
     requires { (i < variables) × (variables * slot_bytes ≤ length room.now) × (get_or room.now (i * slot_bytes) 0 ≤ name_bytes) × (length s.now ≤ name_bytes) }
     ensures { result ≡ same_name (name_in room.now i) s.now }
 {
     let at = i * SLOT;
-    if room[at] as usize != s.len() {
-        return false;
-    }
-    let mut j = 0;
-    while j < s.len() {
-        if room[at + 1 + j] != s[j] {
-            return false;
-        }
-        j += 1;
-    }
-    true
+    let size = room[at] as usize;
+    &room[at + 1..at + 1 + size] == s
 }
 
-// The place of s among the first n names of a room; n where it is none of them.
-fn find_name(room: &[u8], n: usize, s: &[u8]) -> usize
+// The place of s among the first n names of a room, if it is one of them.
+fn find_name(room: &[u8], n: usize, s: &[u8]) -> Option<usize>
     requires { Holding n room.now × (length s.now ≤ name_bytes) }
-    ensures { result ≡ place_in (held n room.now) s.now }
+    ensures { MatchOption result (place_in (held n room.now) s.now ≡ n) (λ i. (i < n) × (i ≡ place_in (held n room.now) s.now)) }
 {
-    let mut i = 0;
-    while i < n {
+    for i in 0..n {
         if is_name(room, i, s) {
-            return i;
+            return Some(i);
         }
-        i += 1;
     }
-    n
+    None
 }
 
 // Holds s as the n-th name of a room.
@@ -74,11 +50,7 @@ fn put_name(room: &mut [u8], n: usize, s: &[u8])
 {
     let at = n * SLOT;
     room[at] = s.len() as u8;
-    let mut j = 0;
-    while j < s.len() {
-        room[at + 1 + j] = s[j];
-        j += 1;
-    }
+    room[at + 1..at + 1 + s.len()].copy_from_slice(s);
 }
 
 // The place of a name's hint.
@@ -86,109 +58,56 @@ fn hint_of(s: &[u8]) -> usize
     ensures { result < hint_count }
 {
     let mut h = 0;
-    let mut j = 0;
-    while j < s.len() {
-        h = (h * 33 + s[j] as usize) % HINTS;
-        j += 1;
+    for b in s {
+        h = (h * 33 + *b as usize) % HINTS;
     }
     h
 }
 
-// A bad name, beside n that are held.
-fn bad(n: usize) -> Numbered
-    ensures { result ≡ record { number = 0; names = n; bad = true } }
-{
-    Numbered {
-        number: 0,
-        names: n,
-        bad: true,
-    }
-}
-
-// A name by its place among the n that are held; a new one is held from now on, if it is short and there is room for it.
-fn number_by_place(room: &mut [u8], hints: &mut [u16], n: usize, s: &[u8]) -> Numbered
+// The place of a name among the n that are held; a new one is held behind them, if it is short and there is room for it.
+fn number_by_place(room: &mut [u8], hints: &mut [u16], n: usize, s: &[u8]) -> Option<usize>
     requires { Holding n room.old × (hint_count ≤ length hints.old) }
-    ensures { NumberedIs false n s.now room.old room.new result }
+    ensures { PlaceIs n s.now room.old room.new result }
 {
     if limits::NAME_BYTES < s.len() {
-        return bad(n);
+        return None;
     }
     let h = hint_of(s);
     let c = hints[h] as usize;
-    if c < n {
-        if is_name(room, c, s) {
-            return Numbered {
-                number: c,
-                names: n,
-                bad: false,
-            };
-        }
+    if c < n && is_name(room, c, s) {
+        return Some(c);
     }
-    let i = find_name(room, n, s);
-    if i == limits::VARIABLES as usize {
-        return bad(n);
+    if let Some(i) = find_name(room, n, s) {
+        hints[h] = i as u16;
+        return Some(i);
     }
-    hints[h] = i as u16;
-    if i < n {
-        return Numbered {
-            number: i,
-            names: n,
-            bad: false,
-        };
+    if n == limits::VARIABLES as usize {
+        return None;
     }
+    hints[h] = n as u16;
     put_name(room, n, s);
-    Numbered {
-        number: i,
-        names: n + 1,
-        bad: false,
-    }
+    Some(n)
 }
 
 // Where the decimal of a plain name begins: behind its x. The end of a name without one.
 fn behind_x(s: &[u8]) -> usize
     ensures { result ≡ behind_x s.now }
 {
-    if s.len() == 0 {
-        return 0;
+    match s.first() {
+        Some(b'x') => 1,
+        _ => s.len(),
     }
-    if s[0] != b'x' {
-        return s.len();
-    }
-    1
 }
 
-// The number of a plain name.
-pub fn plain_number(s: &[u8]) -> Plain
+// The number of a plain name; none of another.
+pub fn plain_number(s: &[u8]) -> Option<usize>
     ensures { PlainIs s.now result }
 {
-    let d = number_at(s, behind_x(s), 0, limits::VARIABLES - 1);
-    let Number::Value(v, e) = d else {
-        return Plain {
-            number: 0,
-            plain: false,
-        };
-    };
-    Plain {
-        number: v as usize,
-        plain: e == s.len(),
+    let d = number_at(s, behind_x(s), 0, limits::VARIABLES - 1).ok()?;
+    let v = d.value?;
+    if d.end == s.len() {
+        Some(v as usize)
+    } else {
+        None
     }
-}
-
-// The number of a name: plain, or by its place. A bad name has none: one that is not plain, or one that is too long or a name too many.
-pub fn number_name(plain: bool, room: &mut [u8], hints: &mut [u16], n: usize, s: &[u8]) -> Numbered
-    requires { Holding n room.old × (hint_count ≤ length hints.old) }
-    ensures { NumberedIs plain n s.now room.old room.new result }
-{
-    if !plain {
-        return number_by_place(room, hints, n, s);
-    }
-    let p = plain_number(s);
-    if p.plain {
-        return Numbered {
-            number: p.number,
-            names: n,
-            bad: false,
-        };
-    }
-    bad(n)
 }

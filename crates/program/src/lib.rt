@@ -2,11 +2,10 @@
 
 #![tactic(auto)]
 
-ghost use Rattle.std.specs.Prelude.{◌≡◌, true, false, ◌<◌, ◌≤◌, ◌++◌, length, take};
+ghost use Rattle.std.specs.Prelude.{◌≡◌, true, false, ◌<◌, ◌≤◌, length, take, IfOk};
 ghost use Rattle.std.specs.Io.KnownBytes.{Consumes, IsAtEnd, Appends};
-ghost use Rattle.std.specs.Fmt.{decimal};
 ghost use Rattle.std.specs.Process.{exit_status};
-ghost use Rattle.program.specs.Program.{IsPrefixLen, six_numbers, status_of, Status};
+ghost use Rattle.program.specs.Program.{IsPrefixLen, bytes_of, six_numbers, status_of, Status};
 
 use std::io::{Read, Write};
 use std::process::ExitCode;
@@ -16,64 +15,37 @@ pub const DONE: u32 = 0;
 
 pub const FAILED: u32 = 2;
 
-// How many bytes were read, and whether no read failed.
-#[derive(Drop)]
-pub struct Input {
+// A read failed: how many bytes had come before it.
+#[derive(Clone, Copy)]
+pub struct Cut {
     pub bytes: usize,
-    pub readable: bool,
 }
 
-// Reads until the input ends or more than `most` bytes are there: in a room of no more than `most` a longer input would be cut,
-// and look like one that ended.
-pub fn read_input<R: Read>(input: &mut R, room: &mut [u8], most: usize) -> Input
+// Reads until the input ends or more than `most` bytes are there, and gives how many came: in a room of no more than `most` a longer
+// input would be cut, and look like one that ended.
+pub fn read_input<R: Read>(input: &mut R, room: &mut [u8], most: usize) -> Result<usize, Cut>
     requires { most < length room.old }
-    ensures inside { IsPrefixLen result.bytes room.new }
-    ensures bytes { Consumes (R.remaining input.old) (R.remaining input.new) (take result.bytes room.new) }
-    ensures end { result.readable ≡ true → result.bytes ≤ most → IsAtEnd (R.remaining input.new) }
+    ensures inside { IsPrefixLen (bytes_of result) room.new }
+    ensures bytes { Consumes (R.remaining input.old) (R.remaining input.new) (take (bytes_of result) room.new) }
+    ensures end { IfOk result (λ n. n ≤ most → IsAtEnd (R.remaining input.new)) }
 {
     let mut done: usize = 0;
     while done <= most {
         match input.read(&mut room[done..]) {
-            Ok(0) => {
-                return Input {
-                    bytes: done,
-                    readable: true,
-                };
-            }
+            Ok(0) => return Ok(done),
             Ok(n) => done += n,
-            Err(_) => {
-                return Input {
-                    bytes: done,
-                    readable: false,
-                };
-            }
+            Err(_) => return Err(Cut { bytes: done }),
         }
     }
-    Input {
-        bytes: done,
-        readable: true,
-    }
+    Ok(done)
 }
 
-// Writes a number and the byte behind it, and tells whether both were written.
-fn say_number<W: Write>(to: &mut W, n: u64, behind: &[u8]) -> bool
-    ensures { result ≡ true → Appends (W.contents to.old) (W.contents to.new) (decimal n ++ behind.now) }
+// Writes six numbers on a line, parted by tabs, and tells whether all were written.
+fn say_six<W: Write>(to: &mut W, numbers: [u64; 6]) -> bool
+    ensures { result ≡ true → Appends (W.contents to.old) (W.contents to.new) (six_numbers numbers) }
 {
-    let number = write!(to, "{n}").is_ok();
-    let rest = to.write_all(behind).is_ok();
-    number & rest
-}
-
-// Writes six numbers, parted by tabs, and tells whether all were written.
-fn say_six<W: Write>(to: &mut W, a: u64, b: u64, c: u64, d: u64, e: u64, f: u64) -> bool
-    ensures { result ≡ true → Appends (W.contents to.old) (W.contents to.new) (six_numbers a b c d e f) }
-{
-    say_number(to, a, b"\t")
-        & say_number(to, b, b"\t")
-        & say_number(to, c, b"\t")
-        & say_number(to, d, b"\t")
-        & say_number(to, e, b"\t")
-        & say_number(to, f, b"\n")
+    let [a, b, c, d, e, f] = numbers;
+    writeln!(to, "{a}\t{b}\t{c}\t{d}\t{e}\t{f}").is_ok()
 }
 
 // Says on standard error what went wrong, and gives the status for it.
@@ -98,18 +70,13 @@ pub fn status<E: Write>(errors: &mut E, written: bool, otherwise: &[u8]) -> u32
 pub fn say_answer<W: Write, E: Write>(
     to: &mut W,
     errors: &mut E,
-    verdict: u64,
-    line: u64,
-    index: u64,
-    products: u64,
-    polynomials: u64,
-    terms: u64,
+    numbers: [u64; 6],
     otherwise: &[u8],
 ) -> u32
     ensures status { Status result }
-    ensures said { result ≡ status_of true → Appends (W.contents to.old) (W.contents to.new) (six_numbers verdict line index products polynomials terms) }
+    ensures said { result ≡ status_of true → Appends (W.contents to.old) (W.contents to.new) (six_numbers numbers) }
 {
-    let said = say_six(to, verdict, line, index, products, polynomials, terms);
+    let said = say_six(to, numbers);
     status(errors, said, otherwise)
 }
 

@@ -16,8 +16,7 @@ use Rattle.paper.specs.Grammar.{Bytes, Read, got, stuck}
 use Rattle.paper.specs.Statement.{Written, modulo, is_ring, in_range, too_many_terms, reduced}
 use Rattle.paper.specs.Spelling.{Spelled, refuse, spell, spell_read, whole_field, spell_field, output_after}
 use Rattle.paper.proofs.Ranges.{ring_some}
-use Rattle.speller.specs.Spells.{Gives, fitted, Accepts}
-use Rattle.speller.specs.declared.Spelled.{Spelled as Answer}
+use Rattle.speller.specs.Spells.{Answer, written_of, Gives, fitted, Accepts}
 use Rattle.speller.proofs.Judging.{request_number, request_terms, request_fitted, accepted_fitted}
 use Rattle.promises.specs.Promises.{Writes, Says, SpelledReadsBack, SpelledAgain, SpelledAlike, SpelledLength, NeverFull}
 use Rattle.promises.proofs.Lengths.{whole_polynomial}
@@ -57,7 +56,7 @@ record Accepted (field : Bytes) (k : ℕ) (s : Bytes) : Type 0 where
   short : length field ≤ line_bytes
   spelled : s ≡ spell k (reduced k value)
 
-bytes_written : (x : Spelled) (out out' : Bytes) (r : Answer) → Gives x out out' r → take r.written out' ≡ x.spelling
+bytes_written : (x : Spelled) (out out' : Bytes) (r : Answer) → Gives x out out' r → take (written_of r) out' ≡ x.spelling
 unfolding output_after
 bytes_written x out out' r g = rw (g.written, g.output) (take-append_seam x.spelling (drop (length x.spelling) out))
 

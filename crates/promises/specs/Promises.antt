@@ -2,6 +2,7 @@
 use mathlib.Core.{Path.◌≡◌, Bool.true, Logic.◌⊎◌, Logic.◌↔◌, List.List, List.[], List.◌++◌, List.map}
 use Rattle.std.specs.Prelude.{ℕ, ◌+◌, ◌*◌, ◌/◌, ◌%◌, ◌^◌, ◌≤◌, ◌<◌, length, take}
 use Rattle.limits.specs.Limits.{variables, line_bytes, field_terms, least_spelling_scratch}
+use Rattle.limits.specs.Refusals.{outcome}
 use Rattle.limits.specs.Verdicts.{ACCEPTED, SHORT, LONGTEXT, FULL}
 use Rattle.algebra.specs.Polynomial.{DifferOnlyAt, Apart, Poly, value, vars, coef_of, reduce, product, Below, Reduced, AllZero, Forced, Derived}
 use Rattle.paper.specs.Statement.{Written, Statement, modulo, is_ring, in_range, as_term, reduced}
@@ -11,8 +12,8 @@ use Rattle.paper.specs.Spelling.{spell, whole_field}
 use Rattle.checker.specs.declared.answer.Answer as code
 use Rattle.checker.specs.Checked.{Checked}
 use Rattle.lpac_host.specs.Hosted.{host_answer, line_weight, Hosted}
-use Rattle.speller.specs.declared.Spelled as speller
-use Rattle.speller.specs.Spells.{Spells}
+use Rattle.speller.specs.Spells as speller
+use Rattle.speller.specs.Spells.{written_of, Spells}
 
 -- ---- algebra: a reduced sum or product has the sum or product of the values
 abbrev pub SumOfValues : Type 0
@@ -84,12 +85,12 @@ ReadBack = (k : ℕ) (p : Poly) → is_ring (modulo k) ≡ true → Reduced k (2
 pub record Writes (field : Bytes) (k : ℕ) (s : Bytes) : Type 0 where
   pub scratch : List ℕ
   pub out : Bytes
-  pub result : speller.Spelled
+  pub result : speller.Answer
   pub scratch' : List ℕ
   pub out' : Bytes
   pub call : Spells field k scratch out result scratch' out'
-  pub accepts : result.verdict ≡ ACCEPTED
-  pub bytes : s ≡ take result.written out'
+  pub accepts : outcome result ≡ ACCEPTED
+  pub bytes : s ≡ take (written_of result) out'
 
 -- s is a whole field that neither NUMBER nor TERMS refuses, and f is what it says
 pub record Says (s : Bytes) (f : Written) : Type 0 where
@@ -104,8 +105,8 @@ SpelledReadsBack = (field : Bytes) (k : ℕ) (s : Bytes) → Writes field k s �
 -- a spelling that is no longer than a line, given back to it at the same k with room for it, is accepted and written as it is
 abbrev pub SpelledAgain : Type 0
 SpelledAgain = (field : Bytes) (k : ℕ) (s : Bytes) → Writes field k s → length s ≤ line_bytes
-    → (scratch : List ℕ) (out : Bytes) (r : speller.Spelled) (scratch' : List ℕ) (out' : Bytes) → least_spelling_scratch ≤ length scratch → length s ≤ length out
-    → Spells s k scratch out r scratch' out' → (r.verdict ≡ ACCEPTED) × (take r.written out' ≡ s)
+    → (scratch : List ℕ) (out : Bytes) (r : speller.Answer) (scratch' : List ℕ) (out' : Bytes) → least_spelling_scratch ≤ length scratch → length s ≤ length out
+    → Spells s k scratch out r scratch' out' → (outcome r ≡ ACCEPTED) × (take (written_of r) out' ≡ s)
 
 -- two fields that say f and g are written alike exactly when they agree at every 0/1 assignment
 abbrev pub SpelledAlike : Type 0
@@ -119,5 +120,5 @@ SpelledLength = (field : Bytes) (k : ℕ) (s : Bytes) (f : Written) → Writes f
 
 -- with an output of as many bytes it never answers FULL
 abbrev pub NeverFull : Type 0
-NeverFull = (field : Bytes) (k : ℕ) (scratch : List ℕ) (out : Bytes) (r : speller.Spelled) (scratch' : List ℕ) (out' : Bytes) → Spells field k scratch out r scratch' out'
-    → line_bytes + field_terms ≤ length out → r.verdict ≡ FULL → ⊥
+NeverFull = (field : Bytes) (k : ℕ) (scratch : List ℕ) (out : Bytes) (r : speller.Answer) (scratch' : List ℕ) (out' : Bytes) → Spells field k scratch out r scratch' out'
+    → line_bytes + field_terms ≤ length out → outcome r ≡ FULL → ⊥

@@ -1,22 +1,25 @@
--- A polynomial behind a comma. Assumes nothing.
-use mathlib.Core.Path.{◌≡◌, sym}
-use mathlib.Core.Bool.{Bool, true, false}
-use mathlib.Core.List.{List}
-use mathlib.Core.Logic.{inl, inr, ⊎_elim}
-use Prim.Native.Nat.{ℕ, ◌+◌, ◌≤◌}
-use lib.ListN.{length, drop}
+-- Readers that stop or go on as another does, and a polynomial behind a comma. Assumes nothing.
+use mathlib.Core.Path.{sym}
+use Prim.Native.Nat.{ℕ}
+use lib.ListN.{drop}
+use Rattle.std.proofs.Common.{Result, Ok, Err}
 use Rattle.paper.specs.Grammar.{Bytes, Reader, next}
 use Rattle.paper.specs.Statement.{WrittenOf}
-use Rattle.paper.specs.Published.{Name, spaces, symbol, poly}
+use Rattle.paper.specs.Published.{Name, symbol, poly}
 use Rattle.paper.proofs.Reading.{next_assoc}
-use Rattle.reader.specs.Places.{Got, Fails}
-use Rattle.reader.specs.Fields.{stands_at}
-use Rattle.reader.proofs.Following.{got_then, fails_then, fails_first}
-use Rattle.named.specs.declared.poly.PolyRead.{PolyRead}
-use Rattle.named.proofs.Tokens.{got_as, fails_as, symbol_here, symbol_not}
-use Rattle.published.specs.Pairs.{PlacedIs, comma_poly}
+use Rattle.reader.specs.Places.{Got, Fails, StopsOr}
+use Rattle.reader.specs.declared.stop.Stop.{Stop}
+use Rattle.reader.proofs.Following.{got_then, fails_first}
+use Rattle.named.proofs.Tokens.{got_as, fails_as}
+use Rattle.published.specs.Pairs.{comma_poly}
 
--- ---- and what G reads behind it
+-- ---- a reader that stops or goes on as another does
+pub stops_as : {A A' B : Type 0} {read : Reader A} {read' : Reader A'} {s : Bytes} {at at' : ℕ} {P P' : B → Type 0} (r : Result B Stop)
+    → StopsOr read s at P r → ((e : ℕ) → Fails read s at e → Fails read' s at' e) → ((x : B) → P x → P' x) → StopsOr read' s at' P' r
+stops_as (Ok x) h f g = g x h
+stops_as (Err e) h f g = f e.at h
+
+-- ---- a comma, a polynomial, and what G reads behind it
 abbrev behind_comma : {B : Type 0} → (WrittenOf Name → Reader B) → Reader B
 behind_comma G = λ r. next (symbol 44 r) (λ _ t. next (poly t) G)
 
@@ -26,23 +29,3 @@ module _ {B : Type 0} (G : WrittenOf Name → Reader B) {s : Bytes} {at : ℕ} w
 
   pub comma_fails : {e : ℕ} → Fails comma_poly s at e → Fails (behind_comma G) s at e
   comma_fails f = fails_as (behind_comma G) (λ r. next (comma_poly r) G) (sym (next_assoc (symbol 44 (drop at s)) (λ _. poly) G)) (fails_first comma_poly G f)
-
--- ---- read into a region
-module _ (s : Bytes) (at : ℕ) where
-  pub comma_absent : at ≤ length s → stands_at s at 44 ≡ false → Fails comma_poly s at at
-  comma_absent l q = fails_first (symbol 44) _ (symbol_not s at 44 l q)
-
-  pub comma_placed : stands_at s at 44 ≡ true → {j : ℕ} → Got spaces s (at + 1) tt j → {base : ℕ} {plain : Bool} {n : ℕ} {room room' : Bytes} {words words' : List ℕ} (r : PolyRead)
-      → PlacedIs base poly plain n s j room room' words words' r → PlacedIs base comma_poly plain n s at room room' words words' r
-  comma_placed here g r p =
-      let c = symbol_here s at 44 here g in
-      record {
-        said = ⊎_elim (λ f. inl (f.0, fails_then (symbol 44) _ c f.1)) (λ h. inr (record {
-          value = h.value;
-          taken = got_then (symbol 44) _ c h.taken;
-          verdict = h.verdict;
-          holds = h.holds;
-          named = h.named;
-        })) p.said;
-        kept = p.kept;
-      }

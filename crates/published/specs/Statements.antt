@@ -1,6 +1,9 @@
 -- What a statement of a published text says, as the code gives it.
-use Rattle.std.specs.Prelude.{◌≡◌, Bool, true, false, not, cond, List, [], ◌∷◌, ℕ, ◌≤◌, ◌<◌, eqb, drop}
-use Rattle.limits.specs.Verdicts.{ACCEPTED, LONGLINE, FORM, NUMBER, TERMS, NAMES}
+use Rattle.std.specs.Prelude.{◌≡◌, Bool, true, false, not, cond, List, [], ◌∷◌, ℕ, ◌≤◌, ◌<◌, eqb, drop, Result, Ok, Err}
+use Rattle.limits.specs.Verdicts.{ACCEPTED, NUMBER, TERMS, NAMES}
+use Rattle.limits.specs.Refusals.{number_of}
+use Rattle.limits.specs.declared.refusal.Refusal.{Refusal}
+use Rattle.limits.specs.declared.refusal.Refusal.TheVariants.{LongLine, Form, Names}
 use Rattle.ground.specs.Lists.{any}
 use Rattle.words.specs.Parts.{Within}
 use Rattle.paper.specs.Grammar.{Bytes, Line, Reader, got, stuck, ◌>>=◌, ◌>>◌, give, end}
@@ -9,9 +12,12 @@ use Rattle.paper.specs.Rules.{first, Store}
 use Rattle.paper.specs.Answer.{index_of}
 use Rattle.paper.specs.Published.{Name, Named, constraint, target, proof_step, NamedItem, read_by}
 use Rattle.paper.specs.Named.{names_in}
+use Rattle.reader.specs.Places.{StopsOr}
+use Rattle.reader.specs.declared.stop.Stop.{Stop}
+use Rattle.names.specs.declared.numbering.Numbering.{Numbering}
 use Rattle.named.specs.Reads.{NamesAre, number_in}
 use Rattle.scratch.specs.Scratch.{goal_at}
-use Rattle.steps.specs.declared.said.Said.TheVariants.{Refused}
+use Rattle.steps.specs.declared.said.Said.{Said}
 use Rattle.steps.specs.Items.{Means}
 use Rattle.published.specs.declared.statement.StatementRead.{StatementRead}
 
@@ -41,35 +47,35 @@ written_by bad st =
     first ((NUMBER, not (numbers_in_range (renamed unnumbered st))) ∷ (TERMS, any too_many_terms (fields (renamed unnumbered st))) ∷ (NAMES, bad) ∷ [])
 
 -- one that is too long, one that cannot be read, one that is refused for what is written, and one that is not
-pub data NamedTells (k : ℕ) (store : Store) (plain : Bool) (n : ℕ) (i : NamedItem) (room room' : Bytes) (words : List ℕ) (r : StatementRead) : Type 0 where
-  long : i.long ≡ true → r.said ≡ Refused LONGLINE → r.bad ≡ false → NamedTells k store plain n i room room' words r
-  stops : i.long ≡ false → (t : Bytes) → i.reads ≡ stuck t → r.said ≡ Refused FORM → r.bad ≡ false → NamedTells k store plain n i room room' words r
-  turns : i.long ≡ false → (st : Named) (t : Bytes) → i.reads ≡ got st t → NamesAre plain n (names_in st) room room' r.names r.bad
-      → r.said ≡ Refused (written_by r.bad st) → (written_by r.bad st ≡ ACCEPTED → ⊥)
-      → (numbers_in_range (renamed unnumbered st) ≡ true → r.index ≡ index_of (renamed unnumbered st)) → NamedTells k store plain n i room room' words r
-  passes : i.long ≡ false → (st : Named) (t : Bytes) → i.reads ≡ got st t → NamesAre plain n (names_in st) room room' r.names r.bad
-      → written_by r.bad st ≡ ACCEPTED → Means k store words r.sum (renamed (number_in plain r.names room') st) r.said
-      → r.index ≡ index_of (renamed unnumbered st) → NamedTells k store plain n i room room' words r
+pub data NamedTells (k : ℕ) (store : Store) (old new : Numbering) (i : NamedItem) (words : List ℕ) (r : StatementRead) : Type 0 where
+  long : i.long ≡ true → r.said ≡ Err LongLine → r.bad ≡ false → NamedTells k store old new i words r
+  stops : i.long ≡ false → (t : Bytes) → i.reads ≡ stuck t → r.said ≡ Err Form → r.bad ≡ false → NamedTells k store old new i words r
+  turns : i.long ≡ false → (st : Named) (t : Bytes) → i.reads ≡ got st t → NamesAre old new (names_in st) r.bad
+      → (why : Refusal) → r.said ≡ Err why → number_of why ≡ written_by r.bad st
+      → (numbers_in_range (renamed unnumbered st) ≡ true → r.index ≡ index_of (renamed unnumbered st)) → NamedTells k store old new i words r
+  passes : i.long ≡ false → (st : Named) (t : Bytes) → i.reads ≡ got st t → NamesAre old new (names_in st) r.bad
+      → written_by r.bad st ≡ ACCEPTED → (said : Said) → r.said ≡ Ok said → Means k store words (renamed (number_in new) st) said
+      → r.index ≡ index_of (renamed unnumbered st) → NamedTells k store old new i words r
 
 -- reading it leaves the goal's region and all behind it
-pub record NamedItemIs (k : ℕ) (store : Store) (plain : Bool) (n : ℕ) (i : NamedItem) (room room' : Bytes) (words words' : List ℕ) (r : StatementRead) : Type 0 where
-  pub tells : NamedTells k store plain n i room room' words' r
+pub record NamedItemIs (k : ℕ) (store : Store) (old new : Numbering) (i : NamedItem) (words words' : List ℕ) (r : StatementRead) : Type 0 where
+  pub tells : NamedTells k store old new i words' r
   pub kept : Within 0 goal_at words words'
 
 -- ---- what read reads from at up to the end, as an item that is not too long
+abbrev pub whole : Reader Named → Reader Named
+whole read = do st ← read; end; give st
+
 abbrev pub item_at : Reader Named → Bytes → ℕ → NamedItem
-item_at read s at = record { long = false; reads = (do st ← read; end; give st) (drop at s) }
+item_at read s at = record { long = false; reads = whole read (drop at s) }
 
--- what was read up to e, refused where the n bytes do not end there, else by why, else where a name is bad
-abbrev pub turned_by : ℕ → StatementRead → StatementRead
-turned_by why x = record { said = Refused why; sum = x.sum; index = x.index; names = x.names; bad = x.bad }
+pub record WholeIs (k : ℕ) (store : Store) (read : Reader Named) (old new : Numbering) (s : Bytes) (at : ℕ) (words words' : List ℕ) (r : Result StatementRead Stop) : Type 0 where
+  pub said : StopsOr (whole read) s at (NamedTells k store old new (item_at read s at) words') r
+  pub kept : Within 0 goal_at words words'
 
-unfoldable pub closed_by : ℕ → StatementRead → StatementRead
-closed_by why x = cond (eqb why ACCEPTED) (cond x.bad (turned_by NAMES x) x) (turned_by why x)
-
-abbrev pub Stopped : StatementRead → Type 0
-Stopped r = (r.said ≡ Refused FORM) × (r.bad ≡ false)
-
-pub record ClosedIs (n e why : ℕ) (x r : StatementRead) : Type 0 where
-  pub left : e < n → Stopped r
-  pub all : n ≤ e → r ≡ closed_by why x
+-- what was read up to e, where the n bytes end there: refused by why, else where a name is bad
+pub data ClosedIs (n e why : ℕ) (x : StatementRead) (r : Result StatementRead Stop) : Type 0 where
+  left : e < n → r ≡ Err (record { at = e }) → ClosedIs n e why x r
+  turned : n ≤ e → (w : Refusal) → number_of w ≡ why → r ≡ Ok (record { said = Err w; index = x.index; bad = x.bad }) → ClosedIs n e why x r
+  misnamed : n ≤ e → why ≡ ACCEPTED → x.bad ≡ true → r ≡ Ok (record { said = Err Names; index = x.index; bad = x.bad }) → ClosedIs n e why x r
+  stands : n ≤ e → why ≡ ACCEPTED → x.bad ≡ false → r ≡ Ok x → ClosedIs n e why x r

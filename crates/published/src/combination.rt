@@ -1,178 +1,110 @@
 // Linear combinations: pairs, each read once and added to the sum of those before it.
-ghost use Rattle.std.specs.Prelude.{◌≡◌, false, List, [], ◌∷◌, ◌++◌, ◌≤◌, ◌<◌, length};
+ghost use Rattle.std.specs.Prelude.{◌≡◌, false, List, [], ◌∷◌, ◌++◌, ◌||◌, ◌≤◌, length};
 ghost use Rattle.limits.specs.Limits.{least_scratch};
-ghost use Rattle.limits.specs.Verdicts.{ACCEPTED, FORM};
+ghost use Rattle.limits.specs.Verdicts.{ACCEPTED};
 ghost use Rattle.paper.specs.Statement.{Written, Pair};
 ghost use Rattle.paper.specs.Published.{summand, summands};
 ghost use Rattle.written.specs.Worded.{Holds};
-ghost use Rattle.names.specs.Names.{Holding, hint_count};
+ghost use Rattle.reader.specs.Verdicts.{lesser_of};
 ghost use Rattle.scratch.specs.Scratch.{factor_at, Kept};
-ghost use Rattle.table.specs.Table.{store_of_columns};
-ghost use Rattle.sums.specs.Sums.{PoolHolds, Summed};
-ghost use Rattle.published.specs.Pairs.{AddedIs, SumIs};
+ghost use Rattle.table.specs.Stores.{store_in};
+ghost use Rattle.sums.specs.Sums.{Summed};
+ghost use Rattle.published.specs.Pairs.{NoPairs, Behind, AddedIs, SumIs};
 
-use super::pairs::read_summand;
+use super::pairs::{SummandRead, read_summand};
+use limits::refusal::Refusal;
 use named::token::skip_spaces;
+use names::numbering::Numbering;
+use reader::stop::Stop;
 use reader::term::stands_at;
 use reader::verdict::lesser;
 use sums::{Sum, add_factor};
-use table::{Counts, Indices, Starts};
+use table::stored::Stored;
 
-// Pairs with their sum, where nothing refuses them and none of their names is bad; how many names are held with theirs, and whether one of
-// them is bad. Or FORM, and the end is the place where they stop.
+// Pairs up to end, with the verdict on what is written and their sum, where nothing refuses them and none of their names is bad; whether
+// one of these is bad.
 #[derive(Drop)]
 pub struct SumRead {
-    pub sum: Sum,
+    pub sum: Result<Sum, Refusal>,
     pub end: usize,
     pub why: u64,
-    pub names: usize,
     pub bad: bool,
 }
 
-// Pairs that stop.
-pub(crate) fn no_sum(end: usize, n: usize) -> SumRead
-    ensures { (result.why ≡ FORM) × (result.end ≡ end) }
-{
-    SumRead {
-        sum: Sum::none(),
-        end,
-        why: limits::FORM,
-        names: n,
-        bad: false,
+impl SumRead {
+    // No pairs, up to end.
+    pub(crate) fn none(end: usize) -> SumRead
+        ensures { NoPairs result }
+    {
+        SumRead {
+            sum: Ok(Sum::none()),
+            end,
+            why: limits::ACCEPTED,
+            bad: false,
+        }
+    }
+
+    // These and the pair q, whose factor stands in its region: it is added where nothing refuses them all and no name is bad.
+    pub(crate) fn with(self, stored: &Stored<'_>, scratch: &mut [u64], q: SummandRead) -> SumRead
+        requires { (least_scratch ≤ length scratch.old)
+            × (lesser_of self.why q.why ≡ ACCEPTED → (self.bad || q.bad) ≡ false
+            → ((w : Written) × Holds w q.terms factor_at scratch.old) × ((qs : List Pair) × Summed stored.now.ring (store_in stored.now) qs scratch.old self.sum)) }
+        ensures behind { Behind self q result }
+        ensures summed { result.why ≡ ACCEPTED → result.bad ≡ false → (w : Written) → Holds w q.terms factor_at scratch.old
+            → (qs : List Pair) → Summed stored.now.ring (store_in stored.now) qs scratch.old self.sum
+            → Summed stored.now.ring (store_in stored.now) (qs ++ (record { index = q.index; factor = w } ∷ [])) scratch.new result.sum }
+        ensures kept { Kept scratch.old scratch.new }
+    {
+        let why = lesser(self.why, q.why);
+        let bad = self.bad | q.bad;
+        let sum = if (why == limits::ACCEPTED) & !bad {
+            add_factor(stored, scratch, q.index, q.terms, self.sum)
+        } else {
+            self.sum
+        };
+        SumRead {
+            sum,
+            end: q.end,
+            why,
+            bad,
+        }
     }
 }
 
-// The sum with the pair whose factor stands in its region, where nothing refuses it so far and no name is bad.
-pub(crate) fn add_read<'a>(
-    indices: &'a Indices,
-    starts: &'a Starts,
-    counts: &'a Counts,
-    stored: usize,
-    pool: &[u64],
-    scratch: &mut [u64],
-    k: u32,
-    index: u32,
-    terms: usize,
-    why: u64,
-    bad: bool,
-    sum: Sum,
-) -> Sum
-    requires { PoolHolds starts.now counts.now stored pool.now × (0 < stored → (1 ≤ k) × (k ≤ 64)) × (least_scratch ≤ length scratch.old)
-        × (why ≡ ACCEPTED → bad ≡ false → ((w : Written) × Holds w terms factor_at scratch.old) × ((qs : List Pair) × Summed k (store_of_columns indices.now starts.now counts.now pool.now stored) qs scratch.old sum)) }
-    ensures summed { why ≡ ACCEPTED → bad ≡ false → (w : Written) → Holds w terms factor_at scratch.old
-        → (qs : List Pair) → Summed k (store_of_columns indices.now starts.now counts.now pool.now stored) qs scratch.old sum
-        → Summed k (store_of_columns indices.now starts.now counts.now pool.now stored) (qs ++ (record { index = index; factor = w } ∷ [])) scratch.new result }
-    ensures kept { Kept scratch.old scratch.new }
-{
-    if why != limits::ACCEPTED {
-        return sum;
-    }
-    if bad {
-        return sum;
-    }
-    add_factor(
-        indices, starts, counts, stored, pool, scratch, k, index, terms, sum,
-    )
-}
-
-// The summand at at, added to the sum of those before it, which have a verdict, and a bad name or none.
-fn add_summand<'a>(
-    indices: &'a Indices,
-    starts: &'a Starts,
-    counts: &'a Counts,
-    stored: usize,
-    pool: &[u64],
-    k: u32,
-    plain: bool,
-    room: &mut [u8],
-    hints: &mut [u16],
-    n: usize,
+// The summand at at, added to the sum of those before it.
+fn add_summand(
+    stored: &Stored<'_>,
+    names: &mut Numbering<'_>,
     s: &[u8],
     at: usize,
     scratch: &mut [u64],
-    why: u64,
-    bad: bool,
-    sum: Sum,
-) -> SumRead
-    requires { PoolHolds starts.now counts.now stored pool.now × (0 < stored → (1 ≤ k) × (k ≤ 64)) × Holding n room.old × (hint_count ≤ length hints.old) × (at ≤ length s.now)
-        × (least_scratch ≤ length scratch.old)
-        × (why ≡ ACCEPTED → bad ≡ false → (qs : List Pair) × Summed k (store_of_columns indices.now starts.now counts.now pool.now stored) qs scratch.old sum) }
-    ensures { AddedIs k (store_of_columns indices.now starts.now counts.now pool.now stored) summand plain n s.now at room.old room.new scratch.old scratch.new why bad sum result }
+    so_far: SumRead,
+) -> Result<SumRead, Stop>
+    requires { (at ≤ length s.now) × (least_scratch ≤ length scratch.old)
+        × (so_far.why ≡ ACCEPTED → so_far.bad ≡ false → (qs : List Pair) × Summed stored.now.ring (store_in stored.now) qs scratch.old so_far.sum) }
+    ensures read { AddedIs stored.now.ring (store_in stored.now) summand names.old names.new s.now at scratch.old scratch.new so_far result }
+    ensures plain { names.new.plain ≡ names.old.plain }
 {
-    let q = read_summand(plain, room, hints, n, s, at, scratch);
-    if q.why == limits::FORM {
-        return no_sum(q.end, n);
-    }
-    let all = lesser(why, q.why);
-    let any = bad | q.bad;
-    SumRead {
-        sum: add_read(
-            indices, starts, counts, stored, pool, scratch, k, q.index, q.terms, all, any, sum,
-        ),
-        end: q.end,
-        why: all,
-        names: q.names,
-        bad: any,
-    }
+    let q = read_summand(names, s, at, scratch)?;
+    Ok(so_far.with(stored, scratch, q))
 }
 
 // The summands at at, each behind a `+` but the first, and their sum.
-pub(crate) fn read_sum<'a>(
-    indices: &'a Indices,
-    starts: &'a Starts,
-    counts: &'a Counts,
-    stored: usize,
-    pool: &[u64],
-    k: u32,
-    plain: bool,
-    room: &mut [u8],
-    hints: &mut [u16],
-    n: usize,
+pub(crate) fn read_sum(
+    stored: &Stored<'_>,
+    names: &mut Numbering<'_>,
     s: &[u8],
     at: usize,
     scratch: &mut [u64],
-) -> SumRead
-    requires { PoolHolds starts.now counts.now stored pool.now × (0 < stored → (1 ≤ k) × (k ≤ 64)) × Holding n room.old × (hint_count ≤ length hints.old) × (at ≤ length s.now)
-        × (least_scratch ≤ length scratch.old) }
-    ensures { SumIs k (store_of_columns indices.now starts.now counts.now pool.now stored) summands plain n s.now at room.old room.new scratch.old scratch.new result }
+) -> Result<SumRead, Stop>
+    requires { (at ≤ length s.now) × (least_scratch ≤ length scratch.old) }
+    ensures read { SumIs stored.now.ring (store_in stored.now) summands names.old names.new s.now at scratch.old scratch.new result }
+    ensures plain { names.new.plain ≡ names.old.plain }
 {
-    let mut r = add_summand(
-        indices,
-        starts,
-        counts,
-        stored,
-        pool,
-        k,
-        plain,
-        room,
-        hints,
-        n,
-        s,
-        at,
-        scratch,
-        limits::ACCEPTED,
-        false,
-        Sum::none(),
-    );
-    while (r.why != limits::FORM) & stands_at(s, r.end, b'+') {
-        r = add_summand(
-            indices,
-            starts,
-            counts,
-            stored,
-            pool,
-            k,
-            plain,
-            room,
-            hints,
-            r.names,
-            s,
-            skip_spaces(s, r.end + 1),
-            scratch,
-            r.why,
-            r.bad,
-            r.sum,
-        );
+    let mut r = add_summand(stored, names, s, at, scratch, SumRead::none(at))?;
+    while stands_at(s, r.end, b'+') {
+        let next = skip_spaces(s, r.end + 1);
+        r = add_summand(stored, names, s, next, scratch, r)?;
     }
-    r
+    Ok(r)
 }

@@ -1,181 +1,83 @@
 // The pairs of PAC's product and of its sum, read once and summed.
-ghost use Rattle.std.specs.Prelude.{◌≡◌, List, [], ◌∷◌, ◌++◌, ℕ, ◌≤◌, ◌<◌, length};
+ghost use Rattle.std.specs.Prelude.{◌≡◌, false, List, ◌≤◌, length};
 ghost use Rattle.limits.specs.Limits.{least_scratch};
 ghost use Rattle.limits.specs.Verdicts.{ACCEPTED};
-ghost use Rattle.paper.specs.Statement.{Pair, renamed_pair};
-ghost use Rattle.paper.specs.Published.{Name, one, pair_of, addends, multiplied};
-ghost use Rattle.names.specs.Names.{Holding, hint_count};
-ghost use Rattle.scratch.specs.Scratch.{Kept};
-ghost use Rattle.table.specs.Table.{store_of_columns};
-ghost use Rattle.sums.specs.Sums.{PoolHolds, Summed};
-ghost use Rattle.published.specs.Pairs.{SummandIs, multiplied_pair, SumIs};
+ghost use Rattle.paper.specs.Statement.{Pair};
+ghost use Rattle.paper.specs.Published.{addends, multiplied};
+ghost use Rattle.reader.specs.Verdicts.{lesser_of};
+ghost use Rattle.names.specs.declared.numbering.Numbering.{Numbering};
+ghost use Rattle.table.specs.Stores.{store_in};
+ghost use Rattle.sums.specs.Sums.{Summed};
+ghost use Rattle.published.specs.Pairs.{SummandIs, multiplied_pair, OneAdded, SumIs};
 
-use super::combination::{SumRead, add_read, no_sum};
-use super::pairs::{SummandRead, behind_comma, no_summand, put_one, read_id};
-use named::token::skip_spaces;
-use reader::term::stands_at;
-use reader::verdict::lesser;
-use sums::Sum;
-use table::{Counts, Indices, Starts};
+use super::combination::SumRead;
+use super::pairs::{IdRead, SummandRead, behind_comma, put_one, read_id};
+use named::token::symbol_at;
+use names::numbering::Numbering;
+use reader::stop::Stop;
+use table::stored::Stored;
 
 // The pair of PAC's product at at: an id, and a polynomial behind a comma.
 fn read_multiplied_pair(
-    plain: bool,
-    room: &mut [u8],
-    hints: &mut [u16],
-    n: usize,
+    names: &mut Numbering<'_>,
     s: &[u8],
     at: usize,
     scratch: &mut [u64],
-) -> SummandRead
-    requires { Holding n room.old × (hint_count ≤ length hints.old) × (at ≤ length s.now) × (least_scratch ≤ length scratch.old) }
-    ensures { SummandIs multiplied_pair plain n s.now at room.old room.new scratch.old scratch.new result }
+) -> Result<SummandRead, Stop>
+    requires { (at ≤ length s.now) × (least_scratch ≤ length scratch.old) }
+    ensures read { SummandIs multiplied_pair names.old names.new s.now at scratch.old scratch.new result }
+    ensures plain { names.new.plain ≡ names.old.plain }
 {
-    let i = read_id(s, at);
-    if i.why == limits::FORM {
-        return no_summand(i.end, n);
-    }
-    let f = behind_comma(plain, room, hints, n, s, i.end, scratch, scratch::FACTOR);
-    if f.why == limits::FORM {
-        return no_summand(f.end, n);
-    }
-    SummandRead {
-        index: i.value,
-        terms: f.terms,
-        end: f.end,
-        why: lesser(i.why, f.why),
-        names: f.names,
-        bad: f.bad,
-    }
+    let i = read_id(s, at)?;
+    let f = behind_comma(names, s, i.end, scratch, scratch::FACTOR)?;
+    Ok(SummandRead::new(i, f))
 }
 
 // The pair of PAC's product at at, and its sum.
-pub(crate) fn read_multiplied<'a>(
-    indices: &'a Indices,
-    starts: &'a Starts,
-    counts: &'a Counts,
-    stored: usize,
-    pool: &[u64],
-    k: u32,
-    plain: bool,
-    room: &mut [u8],
-    hints: &mut [u16],
-    n: usize,
+pub(crate) fn read_multiplied(
+    stored: &Stored<'_>,
+    names: &mut Numbering<'_>,
     s: &[u8],
     at: usize,
     scratch: &mut [u64],
-) -> SumRead
-    requires { PoolHolds starts.now counts.now stored pool.now × (0 < stored → (1 ≤ k) × (k ≤ 64)) × Holding n room.old × (hint_count ≤ length hints.old) × (at ≤ length s.now)
-        × (least_scratch ≤ length scratch.old) }
-    ensures { SumIs k (store_of_columns indices.now starts.now counts.now pool.now stored) multiplied plain n s.now at room.old room.new scratch.old scratch.new result }
+) -> Result<SumRead, Stop>
+    requires { (at ≤ length s.now) × (least_scratch ≤ length scratch.old) }
+    ensures read { SumIs stored.now.ring (store_in stored.now) multiplied names.old names.new s.now at scratch.old scratch.new result }
+    ensures plain { names.new.plain ≡ names.old.plain }
 {
-    let q = read_multiplied_pair(plain, room, hints, n, s, at, scratch);
-    if q.why == limits::FORM {
-        return no_sum(q.end, n);
-    }
-    let none = Sum::none();
-    SumRead {
-        sum: add_read(
-            indices, starts, counts, stored, pool, scratch, k, q.index, q.terms, q.why, q.bad, none,
-        ),
-        end: q.end,
-        why: q.why,
-        names: q.names,
-        bad: q.bad,
-    }
+    let q = read_multiplied_pair(names, s, at, scratch)?;
+    Ok(SumRead::none(at).with(stored, scratch, q))
 }
 
-// The sum with the polynomial under an index, where nothing refuses it.
-fn add_one<'a>(
-    indices: &'a Indices,
-    starts: &'a Starts,
-    counts: &'a Counts,
-    stored: usize,
-    pool: &[u64],
-    scratch: &mut [u64],
-    k: u32,
-    index: u32,
-    why: u64,
-    sum: Sum,
-) -> Sum
-    requires { PoolHolds starts.now counts.now stored pool.now × (0 < stored → (1 ≤ k) × (k ≤ 64)) × (least_scratch ≤ length scratch.old)
-        × (why ≡ ACCEPTED → (qs : List Pair) × Summed k (store_of_columns indices.now starts.now counts.now pool.now stored) qs scratch.old sum) }
-    ensures summed { why ≡ ACCEPTED → (f : Name → ℕ) (qs : List Pair) → Summed k (store_of_columns indices.now starts.now counts.now pool.now stored) qs scratch.old sum
-        → Summed k (store_of_columns indices.now starts.now counts.now pool.now stored) (qs ++ (renamed_pair f (pair_of index one) ∷ [])) scratch.new result }
-    ensures kept { Kept scratch.old scratch.new }
+// An id alone behind those of so_far: what it names is added.
+fn add_one(stored: &Stored<'_>, scratch: &mut [u64], so_far: SumRead, i: IdRead) -> SumRead
+    requires { (least_scratch ≤ length scratch.old)
+        × (lesser_of so_far.why i.why ≡ ACCEPTED → so_far.bad ≡ false → (qs : List Pair) × Summed stored.now.ring (store_in stored.now) qs scratch.old so_far.sum) }
+    ensures { OneAdded stored.now.ring (store_in stored.now) i scratch.old scratch.new so_far result }
 {
     put_one(scratch);
-    add_read(
-        indices, starts, counts, stored, pool, scratch, k, index, 1, why, false, sum,
-    )
-}
-
-// The sum of the polynomials under two indices, where nothing refuses it.
-fn add_both<'a>(
-    indices: &'a Indices,
-    starts: &'a Starts,
-    counts: &'a Counts,
-    stored: usize,
-    pool: &[u64],
-    scratch: &mut [u64],
-    k: u32,
-    i: u32,
-    j: u32,
-    why: u64,
-) -> Sum
-    requires { PoolHolds starts.now counts.now stored pool.now × (0 < stored → (1 ≤ k) × (k ≤ 64)) × (least_scratch ≤ length scratch.old) }
-    ensures summed { why ≡ ACCEPTED → (f : Name → ℕ)
-        → Summed k (store_of_columns indices.now starts.now counts.now pool.now stored) (renamed_pair f (pair_of i one) ∷ renamed_pair f (pair_of j one) ∷ []) scratch.new result }
-    ensures kept { Kept scratch.old scratch.new }
-{
-    let none = Sum::none();
-    let first = add_one(
-        indices, starts, counts, stored, pool, scratch, k, i, why, none,
-    );
-    add_one(
-        indices, starts, counts, stored, pool, scratch, k, j, why, first,
-    )
+    let q = SummandRead {
+        index: i.value,
+        terms: 1,
+        end: i.end,
+        why: i.why,
+        bad: false,
+    };
+    so_far.with(stored, scratch, q)
 }
 
 // The two ids of PAC's sum at at, parted by a comma, and the sum of what they name.
-pub(crate) fn read_addends<'a>(
-    indices: &'a Indices,
-    starts: &'a Starts,
-    counts: &'a Counts,
-    stored: usize,
-    pool: &[u64],
-    k: u32,
-    plain: bool,
-    room: &mut [u8],
-    hints: &mut [u16],
-    n: usize,
+pub(crate) fn read_addends(
+    stored: &Stored<'_>,
     s: &[u8],
     at: usize,
     scratch: &mut [u64],
-) -> SumRead
-    requires { PoolHolds starts.now counts.now stored pool.now × (0 < stored → (1 ≤ k) × (k ≤ 64)) × Holding n room.old × (hint_count ≤ length hints.old) × (at ≤ length s.now)
-        × (least_scratch ≤ length scratch.old) }
-    ensures { SumIs k (store_of_columns indices.now starts.now counts.now pool.now stored) addends plain n s.now at room.old room.new scratch.old scratch.new result }
+) -> Result<SumRead, Stop>
+    requires { (at ≤ length s.now) × (least_scratch ≤ length scratch.old) }
+    ensures { (names : Numbering) → SumIs stored.now.ring (store_in stored.now) addends names names s.now at scratch.old scratch.new result }
 {
-    let i = read_id(s, at);
-    if i.why == limits::FORM {
-        return no_sum(i.end, n);
-    }
-    if !stands_at(s, i.end, b',') {
-        return no_sum(i.end, n);
-    }
-    let j = read_id(s, skip_spaces(s, i.end + 1));
-    if j.why == limits::FORM {
-        return no_sum(j.end, n);
-    }
-    let why = lesser(i.why, j.why);
-    SumRead {
-        sum: add_both(
-            indices, starts, counts, stored, pool, scratch, k, i.value, j.value, why,
-        ),
-        end: j.end,
-        why,
-        names: n,
-        bad: false,
-    }
+    let i = read_id(s, at)?;
+    let j = read_id(s, symbol_at(s, i.end, b',')?)?;
+    let first = add_one(stored, scratch, SumRead::none(at), i);
+    Ok(add_one(stored, scratch, first, j))
 }

@@ -1,20 +1,19 @@
 // A statement read, once: its kind with its numbers, its polynomial as it was written, in the stated region of the scratch, and the sum of its pairs.
-ghost use Rattle.std.specs.Prelude.{◌≡◌, false, ℕ, ◌≤◌, ◌<◌, length};
+ghost use Rattle.std.specs.Prelude.{◌≡◌, false, ℕ, ◌≤◌, length, Err};
 ghost use Rattle.limits.specs.Limits.{least_scratch};
 ghost use Rattle.paper.specs.Rules.{Store};
 ghost use Rattle.paper.specs.Published.{constraint, target, read_by};
-ghost use Rattle.names.specs.Names.{Holding, hint_count};
-ghost use Rattle.table.specs.Table.{store_of_columns};
-ghost use Rattle.sums.specs.Sums.{PoolHolds};
-ghost use Rattle.steps.specs.declared.said.Said.TheVariants.{Refused};
-ghost use Rattle.published.specs.Statements.{reader_of, turned_by, ClosedIs, item_at, NamedItemIs};
+ghost use Rattle.table.specs.Stores.{store_in};
+ghost use Rattle.published.specs.Statements.{reader_of, ClosedIs, WholeIs, NamedItemIs};
 
 use super::pairs::{read_id, read_polynomial};
 use super::step::read_step;
+use limits::refusal::{Refusal, verdict};
+use names::numbering::Numbering;
+use reader::stop::Stop;
 use reader::verdict::lesser;
 use steps::said::Said;
-use sums::Sum;
-use table::{Counts, Indices, Starts};
+use table::stored::Stored;
 
 // Which statements a text has at a place: constraints; the target, and none behind it; steps of a proof.
 pub const CONSTRAINT: u8 = 0;
@@ -25,154 +24,134 @@ pub const NONE: u8 = 2;
 
 pub const STEP: u8 = 3;
 
-// What a statement says, with the sum of its pairs, if it has any, and its index, if it has one; how many names are held with its own, and
-// whether one of them is bad.
+// What a statement says, its index, if it has one, and whether one of its names is bad.
 #[derive(Drop)]
 pub struct StatementRead {
-    pub said: Said,
-    pub sum: Sum,
+    pub said: Result<Said, Refusal>,
     pub index: u32,
-    pub names: usize,
     pub bad: bool,
 }
 
-// A statement of which nothing is taken: n names are held as before.
-pub(crate) fn no_statement(why: u64, n: usize) -> StatementRead
-    ensures { (result.said ≡ Refused why) × (result.bad ≡ false) }
+// A statement of which nothing is taken.
+fn no_statement(why: Refusal) -> StatementRead
+    ensures { result ≡ record { said = Err why; index = 0; bad = false } }
 {
     StatementRead {
-        said: Said::Refused(why),
-        sum: Sum::none(),
+        said: Err(why),
         index: 0,
-        names: n,
         bad: false,
     }
 }
 
-// A statement that was read, and is refused.
-fn turned(why: u64, read: StatementRead) -> StatementRead
-    ensures { result ≡ turned_by why read }
-{
-    let sum = read.sum;
-    StatementRead {
-        said: Said::Refused(why),
-        sum,
-        index: read.index,
-        names: read.names,
-        bad: read.bad,
-    }
-}
-
-// What was read of a statement, if nothing refuses it and the statement ends there.
-pub(crate) fn closed(s: &[u8], end: usize, why: u64, n: usize, read: StatementRead) -> StatementRead
+// What was read of a statement up to end, if the statement ends there: refused by why, else where a name is bad.
+pub(crate) fn closed(
+    s: &[u8],
+    end: usize,
+    why: u64,
+    read: StatementRead,
+) -> Result<StatementRead, Stop>
+    requires { why ≤ 17 }
     ensures { ClosedIs (length s.now) end why read result }
 {
     if end < s.len() {
-        return no_statement(limits::FORM, n);
+        return Err(Stop { at: end });
     }
-    if why != limits::ACCEPTED {
-        return turned(why, read);
+    if let Err(why) = verdict(why) {
+        return Ok(StatementRead {
+            said: Err(why),
+            ..read
+        });
     }
     if read.bad {
-        return turned(limits::NAMES, read);
+        return Ok(StatementRead {
+            said: Err(Refusal::Names),
+            ..read
+        });
     }
-    read
+    Ok(read)
 }
 
 // A constraint: its id and its polynomial.
 fn read_constraint(
-    plain: bool,
-    room: &mut [u8],
-    hints: &mut [u16],
-    n: usize,
+    names: &mut Numbering<'_>,
     s: &[u8],
     scratch: &mut [u64],
-) -> StatementRead
-    requires { Holding n room.old × (hint_count ≤ length hints.old) × (least_scratch ≤ length scratch.old) }
-    ensures { (k : ℕ) (store : Store) → NamedItemIs k store plain n (item_at constraint s.now 0) room.old room.new scratch.old scratch.new result }
+) -> Result<StatementRead, Stop>
+    requires { least_scratch ≤ length scratch.old }
+    ensures read { (k : ℕ) (store : Store) → WholeIs k store constraint names.old names.new s.now 0 scratch.old scratch.new result }
+    ensures plain { names.new.plain ≡ names.old.plain }
 {
-    let i = read_id(s, 0);
-    if i.why == limits::FORM {
-        return no_statement(limits::FORM, n);
-    }
-    let p = read_polynomial(plain, room, hints, n, s, i.end, scratch, scratch::STATED);
-    if p.why == limits::FORM {
-        return no_statement(limits::FORM, n);
-    }
+    let i = read_id(s, 0)?;
+    let p = read_polynomial(names, s, i.end, scratch, scratch::STATED)?;
     let read = StatementRead {
-        said: Said::Input(i.value, p.terms),
-        sum: Sum::none(),
+        said: Ok(Said::Input(i.value, p.terms)),
         index: i.value,
-        names: p.names,
         bad: p.bad,
     };
-    closed(s, p.end, lesser(i.why, p.why), n, read)
+    closed(s, p.end, lesser(i.why, p.why), read)
 }
 
 // The target: its polynomial.
 fn read_target(
-    plain: bool,
-    room: &mut [u8],
-    hints: &mut [u16],
-    n: usize,
+    names: &mut Numbering<'_>,
     s: &[u8],
     scratch: &mut [u64],
-) -> StatementRead
-    requires { Holding n room.old × (hint_count ≤ length hints.old) × (least_scratch ≤ length scratch.old) }
-    ensures { (k : ℕ) (store : Store) → NamedItemIs k store plain n (item_at target s.now 0) room.old room.new scratch.old scratch.new result }
+) -> Result<StatementRead, Stop>
+    requires { least_scratch ≤ length scratch.old }
+    ensures read { (k : ℕ) (store : Store) → WholeIs k store target names.old names.new s.now 0 scratch.old scratch.new result }
+    ensures plain { names.new.plain ≡ names.old.plain }
 {
-    let p = read_polynomial(plain, room, hints, n, s, 0, scratch, scratch::STATED);
-    if p.why == limits::FORM {
-        return no_statement(limits::FORM, n);
-    }
+    let p = read_polynomial(names, s, 0, scratch, scratch::STATED)?;
     let read = StatementRead {
-        said: Said::Goal(p.terms),
-        sum: Sum::none(),
+        said: Ok(Said::Goal(p.terms)),
         index: 0,
-        names: p.names,
         bad: p.bad,
     };
-    closed(s, p.end, p.why, n, read)
+    closed(s, p.end, p.why, read)
 }
 
-// A statement of a kind, whose `;` is taken off: without one it has bad form at its end at the latest. Its names are numbered beside n that are
-// held, and the sum of its pairs is over the stored polynomials of the columns, at k.
-pub fn read_statement<'a>(
+// A statement of a kind, to its end.
+fn read_whole(
     kind: u8,
-    indices: &'a Indices,
-    starts: &'a Starts,
-    counts: &'a Counts,
-    stored: usize,
-    pool: &[u64],
-    k: u32,
-    plain: bool,
-    room: &mut [u8],
-    hints: &mut [u16],
-    n: usize,
+    stored: &Stored<'_>,
+    names: &mut Numbering<'_>,
+    s: &[u8],
+    scratch: &mut [u64],
+) -> Result<StatementRead, Stop>
+    requires { least_scratch ≤ length scratch.old }
+    ensures read { WholeIs stored.now.ring (store_in stored.now) (reader_of kind) names.old names.new s.now 0 scratch.old scratch.new result }
+    ensures plain { names.new.plain ≡ names.old.plain }
+{
+    match kind {
+        CONSTRAINT => read_constraint(names, s, scratch),
+        TARGET => read_target(names, s, scratch),
+        NONE => Err(Stop { at: 0 }),
+        _ => read_step(stored, names, s, scratch),
+    }
+}
+
+// A statement of a kind, whose `;` is taken off: without one it has bad form at its end at the latest. Its names are numbered with those that
+// are held, and the sum of its pairs is over the stored polynomials.
+pub fn read_statement(
+    kind: u8,
+    stored: &Stored<'_>,
+    names: &mut Numbering<'_>,
     s: &[u8],
     ended: bool,
     scratch: &mut [u64],
 ) -> StatementRead
-    requires { PoolHolds starts.now counts.now stored pool.now × (0 < stored → (1 ≤ k) × (k ≤ 64)) × Holding n room.old × (hint_count ≤ length hints.old)
-        × (least_scratch ≤ length scratch.old) }
-    ensures { NamedItemIs k (store_of_columns indices.now starts.now counts.now pool.now stored) plain n (read_by (reader_of kind) (record { content = s.now; ended = ended })) room.old room.new scratch.old scratch.new result }
+    requires { least_scratch ≤ length scratch.old }
+    ensures read { NamedItemIs stored.now.ring (store_in stored.now) names.old names.new (read_by (reader_of kind) (record { content = s.now; ended = ended })) scratch.old scratch.new result }
+    ensures plain { names.new.plain ≡ names.old.plain }
 {
     if limits::LINE_BYTES < s.len() {
-        return no_statement(limits::LONGLINE, n);
+        return no_statement(Refusal::LongLine);
     }
     if !ended {
-        return no_statement(limits::FORM, n);
+        return no_statement(Refusal::Form);
     }
-    if kind == CONSTRAINT {
-        return read_constraint(plain, room, hints, n, s, scratch);
+    match read_whole(kind, stored, names, s, scratch) {
+        Ok(read) => read,
+        Err(_) => no_statement(Refusal::Form),
     }
-    if kind == TARGET {
-        return read_target(plain, room, hints, n, s, scratch);
-    }
-    if kind == NONE {
-        return no_statement(limits::FORM, n);
-    }
-    read_step(
-        indices, starts, counts, stored, pool, k, plain, room, hints, n, s, scratch,
-    )
 }

@@ -1,5 +1,5 @@
 -- The contracts of `reader` decide their results, and of an accepted field the buffer too. Assumes nothing.
-use mathlib.Core.Path.{◌≡◌, refl, sym, ap, ap₂, ◌∙◌}
+use mathlib.Core.Path.{◌≡◌, refl, sym, ap, ◌∙◌}
 use mathlib.Core.Bool.{Bool, true, false, not}
 use mathlib.Core.List.{List, [], ◌∷◌}
 use mathlib.Core.Logic.{⊎_elim}
@@ -8,9 +8,10 @@ use native.Mathlib.Omega.{arith}
 use lib.Dec.{ltb}
 use lib.ListN.{length, drop, length-drop}
 use borrow.Author.Tests.{ltb-true, ltb-false}
+use Rattle.std.proofs.Common.{Option, Some, None, Result, Ok, Err}
 use Rattle.ground.proofs.Tests.{split}
 use Rattle.limits.specs.Limits.{field_terms, term_words}
-use Rattle.limits.specs.Verdicts.{ACCEPTED, FORM, NUMBER, TERMS}
+use Rattle.limits.specs.Verdicts.{ACCEPTED, NUMBER, TERMS}
 use Rattle.words.specs.Parts.{part, Within}
 use Rattle.words.proofs.Parts.{length_part}
 use Rattle.words.proofs.Laws.{Words}
@@ -21,20 +22,16 @@ use Rattle.paper.specs.Grammar.{Bytes, Line as TextLine, Reader, polynomial}
 use Rattle.paper.specs.Statement.{Written, within, too_many_terms}
 use Rattle.paper.specs.Rules.{first}
 use Rattle.paper.proofs.Reading.{clash}
-use Rattle.reader.specs.Places.{Got, Fails}
+use Rattle.reader.specs.Places.{Got, Fails, StopsOr}
 use Rattle.reader.specs.Search.{FirstOrEnd, LineEnd}
-use Rattle.reader.specs.Numbers.{TooLarge, DecimalIs, InRange, OutOfRange, NumberIs}
+use Rattle.reader.specs.Numbers.{TooLarge, ValueAt, DecimalAt, DecimalIs, InRange, OutOfRange, RangedAt, NumberIs}
 use Rattle.reader.specs.Keywords.{WordIs}
 use Rattle.reader.specs.Marks.{all_fine, first_outside, field_marks, first_too_many}
-use Rattle.reader.specs.Fields.{FieldStops, FieldAt, FieldIs}
-use Rattle.reader.specs.declared.number.Decimal.{Decimal}
-use Rattle.reader.specs.declared.number.Decimal.TheVariants.{Value, Large, Stuck}
+use Rattle.reader.specs.Fields.{FieldAt, FieldIs}
+use Rattle.reader.specs.declared.stop.Stop.{Stop}
 use Rattle.reader.specs.declared.number.Number.{Number}
-use Rattle.reader.specs.declared.number.Number.TheVariants.{Value as Ranged, Refused}
-use Rattle.reader.specs.declared.keyword.Word.{Word}
-use Rattle.reader.specs.declared.keyword.Word.TheVariants.{Read, Refused as NoWord}
 use Rattle.reader.specs.declared.field.FieldRead.{FieldRead}
-use Rattle.reader.proofs.Numbers.{within_yes}
+use Rattle.reader.proofs.Numbers.{within_yes, number_takes}
 use Rattle.reader.proofs.Ranges.{neither}
 
 -- ---- a reader reads or stops, and at one place
@@ -56,25 +53,46 @@ same_stop {s = s} {p = p} {q = q} x y =
 pub not_both : {A : Type 0} {read : Reader A} {s : Bytes} {at e p : ℕ} {x : A} → Got read s at x e → Fails read s at p → ⊥
 not_both g f = clash (sym f.reads ∙ g.reads)
 
--- ---- `decimal_at`: a value is a word
-abbrev pub Held : Decimal → Type 0
-Held (Value n e) = n < 2 ^ 64
-Held (Large e) = Unit {0}
-Held (Stuck p) = Unit {0}
+-- so does the code's answer, where what holds of one fixes it and is read
+one_answer : {A B : Type 0} {read : Reader A} {s : Bytes} {at : ℕ} {P Q : B → Type 0} → ((x y : B) → P x → Q y → x ≡ y)
+    → ((x : B) → P x → (p : ℕ) → Fails read s at p → ⊥) → ((x : B) → Q x → (p : ℕ) → Fails read s at p → ⊥)
+    → (r q : Result B Stop) → StopsOr read s at P r → StopsOr read s at Q q → r ≡ q
+one_answer same left right (Ok x) (Ok y) h k = ap (λ z. Ok z) (same x y h k)
+one_answer same left right (Ok x) (Err e) h k = absurd (left x h e.at k)
+one_answer same left right (Err e) (Ok y) h k = absurd (right y k e.at h)
+one_answer same left right (Err d) (Err e) h k = ap (λ (p : ℕ). Err (record { at = p })) (same_stop h k)
+
+-- ---- `decimal_at`, `digits_from`: a value is a word
+abbrev pub Held : Option ℕ → Type 0
+Held (Some n) = n < 2 ^ 64
+Held None = Unit {0}
+
+abbrev pub HeldIn : Result Number Stop → Type 0
+HeldIn (Ok n) = Held n.value
+HeldIn (Err e) = Unit {0}
 
 too_large : {read : Reader ℕ} {s : Bytes} {at n d e : ℕ} → n < 2 ^ 64 → Got read s at n d → TooLarge read s at e → ⊥
 too_large {read} {s} {at} h x y = omega (arith, (same_end read s at x y.taken).0, y.large)
 
-pub one_decimal : (read : Reader ℕ) (s : Bytes) (at : ℕ) (d c : Decimal) → Held d → Held c → DecimalIs read s at d → DecimalIs read s at c → d ≡ c
-one_decimal read s at (Value n d) (Value m e) h k x y = let b = same_end read s at x y in ap₂ (λ i j. Value i j) b.0 b.1
-one_decimal read s at (Value n d) (Large e) h k x y = absurd (too_large h x y)
-one_decimal read s at (Value n d) (Stuck q) h k x y = absurd (not_both x y)
-one_decimal read s at (Large d) (Value m e) h k x y = absurd (too_large k y x)
-one_decimal read s at (Large d) (Large e) h k x y = ap (λ i. Large i) (same_end read s at x.taken y.taken).1
-one_decimal read s at (Large d) (Stuck q) h k x y = absurd (not_both x.taken y)
-one_decimal read s at (Stuck p) (Value m e) h k x y = absurd (not_both y x)
-one_decimal read s at (Stuck p) (Large e) h k x y = absurd (not_both y.taken x)
-one_decimal read s at (Stuck p) (Stuck q) h k x y = ap (λ i. Stuck i) (same_stop x y)
+module _ (read : Reader ℕ) (s : Bytes) (at : ℕ) where
+  same_value : (v w : Option ℕ) {d e : ℕ} → Held v → Held w → ValueAt read s at d v → ValueAt read s at e w → (v ≡ w) × (d ≡ e)
+  same_value (Some n) (Some m) h k x y = let b = same_end read s at x y in (ap (λ i. Some i) b.0, b.1)
+  same_value (Some n) None h k x y = absurd (too_large h x y)
+  same_value None (Some m) h k x y = absurd (too_large k y x)
+  same_value None None h k x y = (refl, (same_end read s at x.taken y.taken).1)
+
+  pub one_value : (n m : Number) → Held n.value → Held m.value → DecimalAt read s at n → DecimalAt read s at m → n ≡ m
+  one_value n m h k x y = let b = same_value n.value m.value h k x y in λ i. record { value = b.0 i; end = b.1 i }
+
+  value_read : (v : Option ℕ) (e p : ℕ) → ValueAt read s at e v → Fails read s at p → ⊥
+  value_read (Some n) e p x y = not_both x y
+  value_read None e p x y = not_both x.taken y
+
+  pub one_decimal : (d c : Result Number Stop) → HeldIn d → HeldIn c → DecimalIs read s at d → DecimalIs read s at c → d ≡ c
+  one_decimal (Ok n) (Ok m) h k x y = ap (λ z. Ok z) (one_value n m h k x y)
+  one_decimal (Ok n) (Err e) h k x y = absurd (value_read n.value n.end e.at x y)
+  one_decimal (Err e) (Ok n) h k x y = absurd (value_read n.value n.end e.at y x)
+  one_decimal (Err d) (Err e) h k x y = ap (λ (p : ℕ). Err (record { at = p })) (same_stop x y)
 
 -- ---- `number_at`
 module _ (read : Reader ℕ) (low high : ℕ) (s : Bytes) (at : ℕ) where
@@ -84,24 +102,20 @@ module _ (read : Reader ℕ) (low high : ℕ) (s : Bytes) (at : ℕ) where
       let z : ◌≡◌ {A = ℕ} 0 1 = cc in
       omega arith
 
-  pub one_number : (n m : Number) → NumberIs read low high s at n → NumberIs read low high s at m → n ≡ m
-  one_number (Ranged v d) (Ranged w e) x y = let b = same_end read s at x.taken y.taken in ap₂ (λ i j. Ranged i j) b.0 b.1
-  one_number (Ranged v d) (Refused w e) x y = absurd (⊎_elim (λ q. in_or_out x q.1) (λ q. not_both x.taken q.1) y)
-  one_number (Refused v d) (Ranged w e) x y = absurd (⊎_elim (λ q. in_or_out y q.1) (λ q. not_both y.taken q.1) x)
-  one_number (Refused v d) (Refused w e) x y =
-      ⊎_elim
-      (λ a. ⊎_elim
-      (λ b. ap₂ (λ i j. Refused i j) (a.0 ∙ sym b.0) (same_end read s at a.1.taken b.1.taken).1)
-      (λ b. absurd (not_both a.1.taken b.1)) y)
-      (λ a. ⊎_elim (λ b. absurd (not_both b.1.taken a.1)) (λ b. ap₂ (λ i j. Refused i j) (a.0 ∙ sym b.0) (same_stop a.1 b.1)) y)
-      x
+  same_range : (v w : Option ℕ) {d e : ℕ} → RangedAt read low high s at d v → RangedAt read low high s at e w → (v ≡ w) × (d ≡ e)
+  same_range (Some n) (Some m) x y = let b = same_end read s at x.taken y.taken in (ap (λ i. Some i) b.0, b.1)
+  same_range (Some n) None x y = absurd (in_or_out x y)
+  same_range None (Some m) x y = absurd (in_or_out y x)
+  same_range None None x y = (refl, (same_end read s at x.taken y.taken).1)
+
+  pub one_number : (n m : Result Number Stop) → NumberIs read low high s at n → NumberIs read low high s at m → n ≡ m
+  one_number n m x y =
+      one_answer (λ a b h k. let q = same_range a.value b.value h k in λ i. record { value = q.0 i; end = q.1 i })
+      (λ a h p f. not_both (number_takes read low high s at a h).1 f) (λ a h p f. not_both (number_takes read low high s at a h).1 f) n m x y
 
 -- ---- `word_at`, `keyword`
-pub one_word : (read : Reader (Unit {0})) (s : Bytes) (at : ℕ) (r q : Word) → WordIs read s at r → WordIs read s at q → r ≡ q
-one_word read s at (Read d) (Read e) x y = ap (λ i. Read i) (same_end read s at x y).1
-one_word read s at (Read d) (NoWord w e) x y = absurd (not_both x y.1)
-one_word read s at (NoWord v d) (Read e) x y = absurd (not_both y x.1)
-one_word read s at (NoWord v d) (NoWord w e) x y = ap₂ (λ i j. NoWord i j) (x.0 ∙ sym y.0) (same_stop x.1 y.1)
+pub one_word : (read : Reader (Unit {0})) (s : Bytes) (at : ℕ) (r q : Result ℕ Stop) → WordIs read s at r → WordIs read s at q → r ≡ q
+one_word read s at r q x y = one_answer (λ a b h k. (same_end read s at h k).1) (λ a h p f. not_both h f) (λ a h p f. not_both h f) r q x y
 
 -- an accepted field has few enough terms
 few : {greatest : ℕ} {s : Bytes} {at : ℕ} {out r : List ℕ} {f : FieldRead} → FieldAt greatest s at out r f → f.why ≡ ACCEPTED → f.terms ≤ field_terms
@@ -109,9 +123,9 @@ unfolding too_many_terms
 few {greatest} x a = omega (arith, x.terms, ltb-false field_terms (length x.value) (neither (all_fine (field_marks greatest x.value)) (ltb field_terms (length x.value)) (sym x.verdict ∙ a)).1)
 
 -- ---- `read_field`: of a refused one the words of the most terms of a field are not decided
-module _ (greatest : ℕ) (s : Bytes) (at : ℕ) (out r q : List ℕ) (f g : FieldRead) where
-  read_once : FieldAt greatest s at out r f → FieldAt greatest s at out q g → f ≡ g
-  read_once x y =
+module _ (greatest : ℕ) (s : Bytes) (at : ℕ) (out r q : List ℕ) where
+  read_once : (f g : FieldRead) → FieldAt greatest s at out r f → FieldAt greatest s at out q g → f ≡ g
+  read_once f g x y =
       let b = same_end polynomial s at x.taken y.taken in
       let v = b.0 in
       λ i. record {
@@ -125,20 +139,12 @@ module _ (greatest : ℕ) (s : Bytes) (at : ℕ) (out r q : List ℕ) (f g : Fie
       verdict_of : Written → ℕ
       verdict_of p = first ((NUMBER, not (all_fine (field_marks greatest p))) ∷ (TERMS, too_many_terms p) ∷ [])
 
-  stops_once : FieldStops s at f → FieldStops s at g → f ≡ g
-  stops_once x y =
-      x.gives ∙ ap (λ (e : ℕ). record { why = FORM; end = e; terms = 0; outside = 0; extra = 0 }) (same_stop x.stops y.stops) ∙ sym y.gives
+  pub one_field : (f g : Result FieldRead Stop) → FieldIs greatest s at out r f → FieldIs greatest s at out q g → f ≡ g
+  one_field f g x y = one_answer read_once (λ a h p e. not_both h.taken e) (λ a h p e. not_both h.taken e) f g x.said y.said
 
-  pub one_field : FieldIs greatest s at out r f → FieldIs greatest s at out q g → f ≡ g
-  one_field x y =
-      ⊎_elim
-      (λ a. ⊎_elim (λ b. stops_once a b) (λ b. absurd (not_both b.taken a.stops)) y.said)
-      (λ a. ⊎_elim (λ b. absurd (not_both a.taken b.stops)) (λ b. read_once a b) y.said)
-      x.said
-
-  pub one_run : Words r → Words q → f.why ≡ ACCEPTED → FieldAt greatest s at out r f → FieldAt greatest s at out q g → r ≡ q
-  one_run u w a x y =
-      let e = read_once x y in
+  pub one_run : (f g : FieldRead) → Words r → Words q → f.why ≡ ACCEPTED → FieldAt greatest s at out r f → FieldAt greatest s at out q g → r ≡ q
+  one_run f g u w a x y =
+      let e = read_once f g x y in
       let l = few x a in
       let n : f.terms ≡ g.terms = ap (λ (h : FieldRead). h.terms) e in
       let k : Within 0 (f.terms * term_words) out q = rw n (y.kept (omega arith)) in

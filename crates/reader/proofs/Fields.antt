@@ -9,6 +9,7 @@ use native.Mathlib.Nat.{add-zero}
 use native.Mathlib.Numerals.{add-one}
 use native.Mathlib.Omega.{arith}
 use lib.Bits.{bit_or, or_comm}
+use mir.Val.{bool_byte}
 use lib.Dec.{eqb, leb, ltb}
 use lib.ListN.{length, drop, get_or, replicate, drop_of_length-le}
 use lib.Seq.{drop-cons}
@@ -16,7 +17,6 @@ use borrow.Author.Tests.{leb-true, le-leb, ltb-true, ltb-false, lt-ltb, le-ltb, 
 use Rattle.ground.specs.Lists.{gather}
 use Rattle.ground.proofs.Tests.{bool_ext, split, and_left, and_right, and_both, cond_yes, cond_no}
 use Rattle.limits.specs.Limits.{set_words, variables}
-use Rattle.limits.specs.Verdicts.{ACCEPTED, FORM, NUMBER}
 use Rattle.algebra.proofs.Unions.{or_assoc}
 use Rattle.words.specs.Words.{number_of}
 use Rattle.terms.specs.Terms.{term_of}
@@ -27,24 +27,18 @@ use Rattle.paper.specs.Spelling.{spell_number}
 use Rattle.paper.proofs.Reading.{takes_decimal, each_stop, each_end}
 use Rattle.reader.specs.Places.{Got, Fails}
 use Rattle.reader.specs.Numbers.{InRange, OutOfRange}
-use Rattle.reader.specs.Marks.{Mark, mark, variable_marks, term_marks}
-use Rattle.reader.specs.Fields.{stands_at, first_of, Told, Took, Part, VariablesAt, MagnitudeAt, TermAt}
+use Rattle.reader.specs.Marks.{mark, variable_marks, term_marks}
+use Rattle.reader.specs.Fields.{stands_at, Told, VariablesAt, MagnitudeIs, TermAt}
 use Rattle.reader.specs.declared.term.Variables.{Variables}
 use Rattle.reader.specs.declared.term.Magnitude.{Magnitude}
-use Rattle.reader.specs.declared.term.TermRead.{TermRead}
-use Rattle.reader.specs.declared.number.Refusal.{Refusal}
-use Rattle.reader.proofs.Numbers.{within_yes, RefusedAs}
+use Rattle.reader.specs.declared.stop.Stop.{Stop}
+use Rattle.reader.proofs.Numbers.{within_yes}
+use Rattle.std.proofs.Common.{Option, None, Some, Ok, Err}
+use Rattle.std.specs.Option.{option_or}
+use Rattle.std.proofs.lemmas.Option.{none-some}
 use Rattle.reader.proofs.Widths.{decimal_ends}
-use Rattle.reader.proofs.Marks.{told_none, told_then, told_fine, told_out, told_read, told_lead, both_accepted, mark_fine, mark_outside, gather_last}
+use Rattle.reader.proofs.Marks.{told_none, told_then, told_fine, told_lead, neither_out, mark_fine, mark_outside, gather_last}
 use Rattle.reader.proofs.Following.{got_then, got_give, fails_then, fails_first, ItemsUpTo, passed_none, passed_more, passed_stuck}
-
--- ---- a part: it stops, or it is read
-module _ {A : Type 0} {read : Reader A} {marks : A → List Mark} {P : A → Type 0} {s : Bytes} {at e why byte : ℕ} (p : Part read marks P s at e why byte) where
-  pub part_stuck : why ≡ FORM → Fails read s at e
-  part_stuck f = ⊎_elim (λ q. q.1) (λ q. absurd (told_read q.told f)) p
-
-  pub part_took : (why ≡ FORM → ⊥) → Took read marks P s at e why byte
-  part_took f = ⊎_elim (λ q. absurd (f q.0)) (λ q. q) p
 
 -- ---- a byte that stands at a place, or does not
 module _ (s : Bytes) (at b : ℕ) where
@@ -101,6 +95,10 @@ module _ (s : Bytes) (at : ℕ) where
         inside = omega arith;
       }
 
+pub sign_byte : (b : Bool) → bool_byte b ≡ cond b 1 0
+sign_byte true = refl
+sign_byte false = refl
+
 pub signed_negative : (b : Bool) (c r : ℕ) → b ≡ true → r ≡ (2 ^ 64 - c) % 2 ^ 64 → r ≡ signed_word b c
 unfolding signed_word
 signed_negative b c r e q = q ∙ sym (cond_yes b ((2 ^ 64 - c) % 2 ^ 64) c e)
@@ -111,14 +109,14 @@ signed_positive b c e = sym (cond_no b ((2 ^ 64 - c) % 2 ^ 64) c e)
 
 -- ---- numbers
 module _ (low high : ℕ) (s : Bytes) (at before : ℕ) where
-  pub number_fine : {v e : ℕ} (i : ℕ) → i ≡ at + before → InRange decimal low high s i v e → Told (mark (within low high) before v ∷ []) at e ACCEPTED 0
+  pub number_fine : {v e : ℕ} (i : ℕ) → i ≡ at + before → InRange decimal low high s i v e → Told (mark (within low high) before v ∷ []) at e None
   number_fine {v} {e} i h r =
       mark_fine (within low high) before v (omega (arith, decimal_ends s i v e r.taken)) (within_yes low high v r.above r.below)
 
   pub number_outside : {e : ℕ} (i : ℕ) → i ≡ at + before → (r : OutOfRange decimal low high s i e)
-      → Told (mark (within low high) before r.value ∷ []) at e NUMBER (i + 1)
+      → Told (mark (within low high) before r.value ∷ []) at e (Some (i + 1))
   number_outside {e} i h r =
-      subst (λ (k : ℕ). Told (mark (within low high) before r.value ∷ []) at e NUMBER (k + 1)) (sym h)
+      subst (λ (k : ℕ). Told (mark (within low high) before r.value ∷ []) at e (Some (k + 1))) (sym h)
       (mark_outside (within low high) before r.value (omega (arith, decimal_ends s i r.value e r.taken)) r.outside)
 
 -- ---- variables
@@ -143,22 +141,22 @@ set_of_more (u ∷ vs) v =
     ∙ or_assoc (2 ^ v) (2 ^ u) (set_of vs)
 
 -- variables stand from at up to i
-abbrev pub VariablesTo : Bytes → ℕ → List ℕ → ℕ → ℕ → ℕ → Type 0
-VariablesTo s at set why byte i = ItemsUpTo (code ".") decimal (λ vs. Told (variable_marks vs) at i why byte × (why ≡ ACCEPTED → number_of set ≡ set_of vs)) s at i
+abbrev pub VariablesTo : Bytes → ℕ → List ℕ → Option ℕ → ℕ → Type 0
+VariablesTo s at set outside i = ItemsUpTo (code ".") decimal (λ vs. Told (variable_marks vs) at i outside × (outside ≡ None → number_of set ≡ set_of vs)) s at i
 
-pub variables_none : (s : Bytes) (at : ℕ) → at ≤ length s → VariablesTo s at (replicate set_words 0) ACCEPTED 0 at
+pub variables_none : (s : Bytes) (at : ℕ) → at ≤ length s → VariablesTo s at (replicate set_words 0) None at
 unfolding variable_marks gather number_of set_of
 variables_none s at h = passed_none (code ".") decimal s at h (told_none at, λ e. refl)
 
 -- the marks with one variable more, behind a dot
-one_variable : (vs : List ℕ) (v : ℕ) {at e why byte : ℕ} → Told (variable_marks vs ++ (mark (within 0 (variables - 1)) 1 v ∷ [])) at e why byte
-    → Told (variable_marks (vs ++ (v ∷ []))) at e why byte
+one_variable : (vs : List ℕ) (v : ℕ) {at e : ℕ} {o : Option ℕ} → Told (variable_marks vs ++ (mark (within 0 (variables - 1)) 1 v ∷ [])) at e o
+    → Told (variable_marks (vs ++ (v ∷ []))) at e o
 unfolding variable_marks
 one_variable vs v t = rw (gather_last (λ v. mark is_variable 1 v ∷ []) vs v, ← variable_mark v) t
 
-module _ (s : Bytes) (at i why byte : ℕ) (set : List ℕ) (p : VariablesTo s at set why byte i) (here : stands_at s i (code ".") ≡ true) where
+module _ (s : Bytes) (at i : ℕ) (outside : Option ℕ) (set : List ℕ) (p : VariablesTo s at set outside i) (here : stands_at s i (code ".") ≡ true) where
   pub variables_more : {v e : ℕ} (set' : List ℕ) → InRange decimal 0 (variables - 1) s (i + 1) v e → number_of set' ≡ bit_or (2 ^ v) (number_of set)
-      → VariablesTo s at set' why byte e
+      → VariablesTo s at set' outside e
   variables_more {v} set' r q =
       passed_more (code ".") decimal s at i p (stands s i (code ".") here).0 (stands s i (code ".") here).1 takes_decimal r.taken
       (λ vs k. (
@@ -166,50 +164,48 @@ module _ (s : Bytes) (at i why byte : ℕ) (set : List ℕ) (p : VariablesTo s a
         λ e. q ∙ ap (bit_or (2 ^ v)) (k.1 e) ∙ sym (set_of_more vs v),
       ))
 
-  pub variables_out : (r : Refusal) → RefusedAs decimal 0 (variables - 1) s (i + 1) r → (r.why ≡ FORM → ⊥) → VariablesTo s at set r.why (first_of byte (i + 2)) r.end
-  variables_out r q n = ⊎_elim out (λ f. absurd (n f.0)) q
-    where
-      e : i + 2 ≡ i + 1 + 1
-      e = omega arith
+  pub variables_out : {e : ℕ} → OutOfRange decimal 0 (variables - 1) s (i + 1) e → VariablesTo s at set (option_or outside (Some (i + 2))) e
+  variables_out r =
+      let e : i + 2 ≡ i + 1 + 1 = omega arith in
+      passed_more (code ".") decimal s at i p (stands s i (code ".") here).0 (stands s i (code ".") here).1 takes_decimal r.taken
+      (λ vs k. (
+        rw e (one_variable vs r.value (told_then k.0 (number_outside 0 (variables - 1) s i 1 (i + 1) refl r))),
+        λ z. absurd (none-some (i + 2) (sym (neither_out outside (Some (i + 2)) z).1)),
+      ))
 
-      out : (r.why ≡ NUMBER) × OutOfRange decimal 0 (variables - 1) s (i + 1) r.end → VariablesTo s at set r.why (first_of byte (i + 2)) r.end
-      out f =
-          passed_more (code ".") decimal s at i p (stands s i (code ".") here).0 (stands s i (code ".") here).1 takes_decimal f.1.taken
-          (λ vs k. (
-            rw (f.0, e) (one_variable vs f.1.value (told_out k.0 (number_outside 0 (variables - 1) s i 1 (i + 1) refl f.1))),
-            λ z. absurd (let y : ⊥ = omega (arith, f.0) in y),
-          ))
-
-  pub variables_stuck : (r : Refusal) → RefusedAs decimal 0 (variables - 1) s (i + 1) r → r.why ≡ FORM → Fails more_variables s at r.end
-  variables_stuck r q f = passed_stuck (code ".") decimal s at i p (stands s i (code ".") here).0 (stands s i (code ".") here).1 (⊎_elim (λ x. absurd (let y : ⊥ = omega (arith, x.0) in y)) (λ x. x.1) q)
+  pub variables_stuck : {q : ℕ} → Fails decimal s (i + 1) q → Fails more_variables s at q
+  variables_stuck f = passed_stuck (code ".") decimal s at i p (stands s i (code ".") here).0 (stands s i (code ".") here).1 f
 
 -- ---- magnitudes
 module _ (greatest : ℕ) (s : Bytes) (at i : ℕ) (negative : Bool) (h : i ≡ at + cond negative 1 0) (g : Got sign s at negative (at + cond negative 1 0)) where
   pub magnitude_fine : {m e : ℕ} (coefficient : ℕ) → InRange decimal 1 greatest s i m e → coefficient ≡ signed_word negative m
-      → MagnitudeAt greatest s at (record { coefficient = coefficient; end = e; why = ACCEPTED; byte = 0 })
+      → MagnitudeIs greatest s at (Ok (record { coefficient = coefficient; end = e; outside = None }))
   magnitude_fine {m} c r q = record {
     negative = negative;
     signed = g;
-    size = inr (record {
+    size = record {
       value = m;
       taken = rw (← h) r.taken;
       told = number_fine 1 greatest s (at + cond negative 1 0) 0 i (h ∙ sym (add-zero (at + cond negative 1 0))) r;
       holds = λ e. q;
-    });
+    };
   }
 
-  pub magnitude_refused : (r : Refusal) → RefusedAs decimal 1 greatest s i r
-      → MagnitudeAt greatest s at (record { coefficient = 0; end = r.end; why = r.why; byte = i + 1 })
-  magnitude_refused r q = record { negative = negative; signed = g; size = ⊎_elim out (λ f. inl (f.0, rw (← h) f.1)) q }
-    where
-      out : (r.why ≡ NUMBER) × OutOfRange decimal 1 greatest s i r.end
-          → Part decimal (λ m. mark (within 1 greatest) 0 m ∷ []) (λ m. r.why ≡ ACCEPTED → 0 ≡ signed_word negative m) s (at + cond negative 1 0) r.end r.why (i + 1)
-      out f = inr (record {
-        value = f.1.value;
-        taken = rw (← h) f.1.taken;
-        told = rw f.0 (number_outside 1 greatest s (at + cond negative 1 0) 0 i (h ∙ sym (add-zero (at + cond negative 1 0))) f.1);
-        holds = λ z. absurd (let y : ⊥ = omega (arith, f.0) in y);
-      })
+  pub magnitude_outside : {e : ℕ} → OutOfRange decimal 1 greatest s i e
+      → MagnitudeIs greatest s at (Ok (record { coefficient = 0; end = e; outside = Some (i + 1) }))
+  magnitude_outside r = record {
+    negative = negative;
+    signed = g;
+    size = record {
+      value = r.value;
+      taken = rw (← h) r.taken;
+      told = number_outside 1 greatest s (at + cond negative 1 0) 0 i (h ∙ sym (add-zero (at + cond negative 1 0))) r;
+      holds = λ z. absurd (none-some (i + 1) (sym z));
+    };
+  }
+
+  pub magnitude_stuck : {e : Stop} → Fails decimal s i e.at → MagnitudeIs greatest s at (Err e)
+  magnitude_stuck f = record { negative = negative; signed = g; size = rw (← h) f }
 
 -- ---- terms
 term_got : {s : Bytes} {at i j e magnitude : ℕ} {negative : Bool} {variables : List ℕ} → Got sign s at negative i → Got decimal s i magnitude j
@@ -217,36 +213,27 @@ term_got : {s : Bytes} {at i j e magnitude : ℕ} {negative : Bool} {variables :
 unfolding term
 term_got g h k = got_then sign _ g (got_then decimal _ h (got_then more_variables _ k (got_give _ k.inside)))
 
--- a term that stops
-pub term_stops : (greatest : ℕ) {s : Bytes} {at e why : ℕ} (r : TermRead) → (r.end ≡ e) × (r.why ≡ why) → why ≡ FORM → Fails term s at e → TermAt greatest s at r
-term_stops greatest {s = s} {at = at} r q f h = inl (q.1 ∙ f, subst (λ (k : ℕ). Fails term s at k) (sym q.0) h)
-
-module _ (greatest : ℕ) (s : Bytes) (at : ℕ) (m : Magnitude) (h : MagnitudeAt greatest s at m) where
-  pub magnitude_stuck : m.why ≡ FORM → Fails term s at m.end
+module _ (greatest : ℕ) (s : Bytes) (at : ℕ) where
+  pub term_stuck : {e : Stop} → MagnitudeIs greatest s at (Err e) → Fails term s at e.at
   unfolding term
-  magnitude_stuck f = fails_then sign _ h.signed (fails_first decimal _ (part_stuck h.size f))
+  term_stuck h = fails_then sign _ h.signed (fails_first decimal _ h.size)
 
-  module _ (n : m.why ≡ FORM → ⊥) where
-    pub magnitude_inside : m.end ≤ length s
-    magnitude_inside = (part_took h.size n).taken.inside
+  module _ (m : Magnitude) (h : MagnitudeIs greatest s at (Ok m)) where
+    pub names_stuck : {p : ℕ} → Fails more_variables s m.end p → Fails term s at p
+    unfolding term
+    names_stuck f = fails_then sign _ h.signed (fails_then decimal _ h.size.taken (fails_first more_variables _ f))
 
     module _ (vs : Variables) (k : VariablesAt s m.end vs) where
-      pub names_stuck : vs.why ≡ FORM → Fails term s at vs.end
-      unfolding term
-      names_stuck f = fails_then sign _ h.signed (fails_then decimal _ (part_took h.size n).taken (fails_first more_variables _ (part_stuck k f)))
-
-      pub term_took : (vs.why ≡ FORM → ⊥) → (words : List ℕ) (why byte : ℕ) → term_of words ≡ record { set = number_of vs.set; coef = m.coefficient }
-          → why ≡ first_of m.why vs.why → byte ≡ first_of m.byte vs.byte → TermAt greatest s at (record { term = words; end = vs.end; why = why; byte = byte })
+      pub term_took : (words : List ℕ) → term_of words ≡ record { set = number_of vs.set; coef = m.coefficient }
+          → TermAt greatest s at (record { term = words; end = vs.end; outside = option_or m.outside vs.outside })
       unfolding term_marks worded_term
-      term_took f words why byte q ew eb =
-          let x = part_took h.size n in
-          let y = part_took k f in
-          let z = told_then (told_lead (within 1 greatest) 0 (0 + cond h.negative 1 0) (cond h.negative 1 0) x.value [] (omega arith) x.told) y.told in
-          inr (record {
-            value = record { negative = h.negative; magnitude = x.value; variables = y.value };
-            taken = term_got h.signed x.taken y.taken;
-            told = rw (ew, eb) z;
+      term_took words q =
+          let x = h.size in
+          record {
+            value = record { negative = h.negative; magnitude = x.value; variables = k.value };
+            taken = term_got h.signed x.taken k.taken;
+            told = told_then (told_lead (within 1 greatest) 0 (0 + cond h.negative 1 0) (cond h.negative 1 0) x.value [] (omega arith) x.told) k.told;
             holds = λ a.
-                let b = both_accepted m.why vs.why (sym ew ∙ a) in
-                q ∙ (λ i. record { set = y.holds b.1 i; coef = x.holds b.0 i });
-          })
+                let b = neither_out m.outside vs.outside a in
+                q ∙ (λ i. record { set = k.holds b.1 i; coef = x.holds b.0 i });
+          }

@@ -6,11 +6,18 @@ use Prim.Native.Nat.{ℕ, ◌+◌, ◌≤◌, ◌<◌}
 use native.Mathlib.Omega.{arith}
 use lib.ListN.{length, drop, get_or, length-drop, drop_of_length-le}
 use lib.Seq.{drop-cons}
+use Rattle.std.proofs.Common.{Option, Result, Ok, Err}
+use Rattle.std.specs.Result.{IsErrAnd}
 use Rattle.paper.specs.Grammar.{Bytes, Read, got, stuck, Reader, next, give, end, each}
 use Rattle.paper.proofs.Reading.{next_assoc, next_give, Takes, after_length, each_more, each_stuck}
 use Rattle.reader.specs.Places.{Got, Fails}
 use Rattle.reader.specs.Marks.{Mark}
 use Rattle.reader.specs.Fields.{Told, Took}
+
+-- what `?` hands on is the same
+pub same_err : {B E : Type 0} {e : E} (r : Result B E) → IsErrAnd r (λ d. d ≡ e) → r ≡ Err e
+same_err (Ok x) q = absurd q
+same_err (Err d) q = ap (λ i. Err i) q
 
 -- ---- one reader after the other
 module _ {A B : Type 0} (read : Reader A) (f : A → Reader B) {s : Bytes} {at : ℕ} where
@@ -117,7 +124,7 @@ module _ {A : Type 0} (c : ℕ) (item : Reader A) (s : Bytes) (at : ℕ) where
   passed_stop i p e = read_stop (each c item) s at i p e
 
 -- the items all told
-pub passed_took : {A : Type 0} (c : ℕ) (item : Reader A) (marks : List A → List Mark) {P : List A → Type 0} (s : Bytes) (at i why byte : ℕ)
-    → ItemsUpTo c item (λ xs. Told (marks xs) at i why byte × P xs) s at i → each c item (drop i s) ≡ got [] (drop i s) → Took (each c item) marks P s at i why byte
-passed_took c item marks s at i why byte p e =
+pub passed_took : {A : Type 0} (c : ℕ) (item : Reader A) (marks : List A → List Mark) {P : List A → Type 0} (s : Bytes) (at i : ℕ) (outside : Option ℕ)
+    → ItemsUpTo c item (λ xs. Told (marks xs) at i outside × P xs) s at i → each c item (drop i s) ≡ got [] (drop i s) → Took (each c item) marks P s at i outside
+passed_took c item marks s at i outside p e =
     record { value = p.items; taken = passed_stop c item s at i p e; told = p.holds.0; holds = p.holds.1 }

@@ -1,7 +1,7 @@
 -- A field from its first term and the terms behind it, and the field `0`. Assumes nothing.
 use mathlib.Core.Path.{◌≡◌, refl, sym, ap, ap₂, subst, ◌∙◌}
 use mathlib.Core.Bool.{Bool, true, false, ◌&&◌, not, cond}
-use mathlib.Core.Logic.{inl, inr, ⊎_elim}
+use mathlib.Core.Logic.{⊎_elim}
 use mathlib.Core.List.{List, [], ◌∷◌, ◌++◌}
 use Prim.Native.Nat.{ℕ, suc, ◌+◌, ◌-◌, ◌*◌, ◌≤◌, ◌<◌}
 use Prim.Native.Char.{code}
@@ -14,7 +14,7 @@ use borrow.Author.Tests.{eqb-true, leb-true, le-leb, ltb-true, ltb-false, lt-ltb
 use Rattle.ground.specs.Lists.{every, total}
 use Rattle.ground.proofs.Tests.{bool_ext, split, and_left, and_right}
 use Rattle.limits.specs.Limits.{term_words, field_terms}
-use Rattle.limits.specs.Verdicts.{ACCEPTED, FORM, NUMBER, TERMS}
+use Rattle.limits.specs.Verdicts.{ACCEPTED, NUMBER, TERMS}
 use Rattle.algebra.specs.Polynomial.{Poly, Term}
 use Rattle.words.specs.Parts.{Within}
 use Rattle.words.proofs.Parts.{within_refl, within_trans, within_wider}
@@ -26,15 +26,16 @@ use Rattle.paper.specs.Spelling.{spell_number, spell_digits}
 use Rattle.paper.specs.Rules.{first}
 use Rattle.paper.proofs.Reading.{takes_term, in_field, each_none}
 use Rattle.paper.proofs.Pieces.{is_zero, each_empty, term_zero, zero_term}
-use Rattle.reader.specs.Places.{Got}
+use Rattle.reader.specs.Places.{Got, Fails}
 use Rattle.reader.specs.Marks.{all_fine, span, first_outside, mark, term_marks, more_marks, field_marks, first_too_many}
-use Rattle.reader.specs.Fields.{first_of, Told, TermAt, PutBehind, more_too_many, RestAt, FieldIs}
+use Rattle.std.proofs.Common.{Option, None, Some, Ok, Err, unwrap_or, is_none}
+use Rattle.std.specs.Option.{option_or}
+use Rattle.reader.specs.declared.stop.Stop.{Stop}
+use Rattle.reader.specs.Fields.{first_of, Told, TermAt, PutBehind, more_too_many, RestAt, RestIs, FieldIs}
 use Rattle.reader.specs.declared.term.TermRead.{TermRead}
 use Rattle.reader.specs.declared.field.Rest.{Rest}
-use Rattle.reader.specs.declared.field.FieldRead.{FieldRead}
-use Rattle.reader.proofs.Marks.{told_then, both_accepted, span_append}
+use Rattle.reader.proofs.Marks.{told_then, told_verdict, told_byte, accepted_none, neither_out, both_accepted, span_append}
 use Rattle.reader.proofs.Following.{got_onward, got_then, got_give, fails_then, fails_first}
-use Rattle.reader.proofs.Fields.{part_stuck, part_took}
 
 -- ---- the polynomial of a first term and others
 module _ {s : Bytes} {at i e : ℕ} {t : WrittenTerm} {ts : List WrittenTerm} (g : Got term s at t i) (h : Got more_terms s i ts e) where
@@ -79,12 +80,14 @@ zero_magnitude t z =
     eqb-true t.magnitude 0 (and_right (not t.negative) (eqb t.magnitude 0) (and_left (not t.negative && eqb t.magnitude 0) _ z))
 
 -- the term 0 is out of its range
-zero_outside : (greatest : ℕ) (t : WrittenTerm) {at e why byte : ℕ} → is_zero t ≡ true → Told (term_marks greatest 0 t) at e why byte → why ≡ ACCEPTED → ⊥
+zero_outside : (greatest : ℕ) (t : WrittenTerm) {at e : ℕ} {o : Option ℕ} → is_zero t ≡ true → Told (term_marks greatest 0 t) at e o
+    → cond (is_none o) ACCEPTED NUMBER ≡ ACCEPTED → ⊥
 unfolding term_marks mark all_fine every
 zero_outside greatest t z h a =
     let m = zero_magnitude t z in
-    let v = h.verdict in
-    let w : NUMBER ≡ ACCEPTED = sym (rw m at v) ∙ a in
+    let v = told_verdict h in
+    let w : is_none _ ≡ false = rw m at v in
+    let y : NUMBER ≡ ACCEPTED = sym (ap (λ (b : Bool). cond b ACCEPTED NUMBER) w) ∙ a in
     omega arith
 
 -- ---- counts
@@ -107,48 +110,49 @@ more_tests n =
     (λ e. le-leb field_terms n (omega (arith, ltb-true field_terms (suc n) e)))
 
 excess_first : (greatest at i : ℕ) (t : WrittenTerm) (ts : List WrittenTerm) → i ≡ at + span (term_marks greatest 0 t)
-    → more_too_many greatest i ts ≡ first_too_many greatest at (t ∷ ts)
+    → unwrap_or (more_too_many greatest i ts) 0 ≡ first_too_many greatest at (t ∷ ts)
 unfolding more_too_many first_too_many too_many_terms field_marks
-excess_first greatest at i t ts h =
-    let e : i + span (more_marks greatest (take (field_terms - 1) ts)) + 2 ≡ at + span (term_marks greatest 0 t ++ more_marks greatest (take (field_terms - 1) ts)) + 2
-    = omega (arith, span_append (term_marks greatest 0 t) (more_marks greatest (take (field_terms - 1) ts))) in
-    ap₂ (λ (b : Bool) (k : ℕ). cond b k 0) (more_tests (length ts)) e
+excess_first greatest at i t ts h = go (leb field_terms (length ts)) ∙ ap (λ (b : Bool). cond b place 0) (more_tests (length ts))
+  where
+    place : ℕ
+    place = at + span (term_marks greatest 0 t ++ more_marks greatest (take (field_terms - 1) ts)) + 2
+
+    go : (b : Bool) → unwrap_or (cond b (Some (i + span (more_marks greatest (take (field_terms - 1) ts)) + 2)) None) 0 ≡ cond b place 0
+    go true = omega (arith, span_append (term_marks greatest 0 t) (more_marks greatest (take (field_terms - 1) ts)))
+    go false = refl
 
 -- ---- the field
-module _ (greatest : ℕ) (s : Bytes) (at : ℕ) (out : List ℕ) (t : TermRead) (h : TermAt greatest s at t) where
-  pub field_stuck : {r : FieldRead} → t.why ≡ FORM → r ≡ record { why = t.why; end = t.end; terms = 0; outside = 0; extra = 0 } → FieldIs greatest s at out out r
+module _ (greatest : ℕ) (s : Bytes) (at : ℕ) (out : List ℕ) where
+  pub field_stuck : {e : Stop} → Fails term s at e.at → FieldIs greatest s at out out (Err e)
   unfolding polynomial
-  field_stuck f q = rw (q, f) (record { within = within_refl; said = inl (record { stops = fails_first term _ (part_stuck h f); gives = refl }) })
+  field_stuck f = record { within = within_refl; said = fails_first term _ f }
 
-  module _ (n : t.why ≡ FORM → ⊥) (mid out' : List ℕ) (put : PutBehind 0 t.why t.term out mid) (r : Rest) (k : RestAt greatest s t.end mid out' r) where
-    all : Within 0 (field_terms * term_words) out out'
-    all = within_trans
+  module _ (t : TermRead) (x : TermAt greatest s at t) (mid out' : List ℕ) (why : ℕ) (w : why ≡ cond (is_none t.outside) ACCEPTED NUMBER)
+      (put : PutBehind 0 why t.term out mid) where
+    all : Within term_words (field_terms * term_words) mid out' → Within 0 (field_terms * term_words) out out'
+    all l = within_trans
         (within_wider 0 (0 * term_words) ((0 + 1) * term_words) (field_terms * term_words) out mid (omega arith) (omega arith) (put.kept (omega arith)))
-        (within_wider 0 term_words (field_terms * term_words) (field_terms * term_words) mid out' (omega arith) (omega arith) k.within)
+        (within_wider 0 term_words (field_terms * term_words) (field_terms * term_words) mid out' (omega arith) (omega arith) l)
 
-    pub rest_stuck : {f : FieldRead} → r.why ≡ FORM → f ≡ record { why = r.why; end = r.end; terms = 0; outside = 0; extra = 0 } → FieldIs greatest s at out out' f
+    pub rest_stuck : {e : Stop} → RestIs greatest s t.end mid out' (Err e) → FieldIs greatest s at out out' (Err e)
     unfolding polynomial
-    rest_stuck w q =
-        rw (q, w) (record { within = all; said = inl (record { stops = fails_then term _ (part_took h n).taken (fails_first more_terms _ (part_stuck k.said w)); gives = refl }) })
+    rest_stuck k = record { within = all k.within; said = fails_then term _ x.taken (fails_first more_terms _ k.said) }
 
-    module _ (m : r.why ≡ FORM → ⊥) where
-      pub rest_inside : r.end ≤ length s
-      rest_inside = (part_took k.said m).taken.inside
+    module _ (r : Rest) (k : RestIs greatest s t.end mid out' (Ok r)) where
+      y : RestAt greatest s t.end mid out' r
+      y = k.said
 
-      pub field_zero : {f : FieldRead} → r.end ≡ at + 1 → get_or s at 0 ≡ 48 → f ≡ record { why = ACCEPTED; end = r.end; terms = 0; outside = 0; extra = 0 }
-          → FieldIs greatest s at out out' f
+      pub field_zero : r.end ≡ at + 1 → get_or s at 0 ≡ 48 → FieldIs greatest s at out out' (Ok (record { why = ACCEPTED; end = r.end; terms = 0; outside = 0; extra = 0 }))
       unfolding as_written field_marks mark span total first_outside all_fine every first too_many_terms first_too_many spell_number spell_digits worded decode
-      field_zero e b q =
-          let x = part_took h n in
-          let y = part_took k.said m in
+      field_zero e b =
           let z = as_zero x.taken y.taken e b in
           let c : r.terms ≡ 1 = y.holds.count ∙ ap (λ (l : List WrittenTerm). suc (length l)) z.0 in
-          let w : Within term_words term_words mid out' = rw c at (y.holds.kept (omega arith)) in
-          let same : out' ≡ out = unchanged term_words mid out' w ∙ put.refused (zero_outside greatest x.value z.1 x.told) in
+          let l : Within term_words term_words mid out' = rw c at (y.holds.kept (omega arith)) in
+          let same : out' ≡ out = unchanged term_words mid out' l ∙ put.refused (λ q. zero_outside greatest x.value z.1 x.told (sym w ∙ q)) in
           let v : as_written x.value y.value ≡ [] = ap (as_written x.value) z.0 ∙ ap (λ (z : Bool). cond z [] (x.value ∷ [])) z.1 in
-          rw q (record {
-            within = all;
-            said = inr (record {
+          record {
+            within = all k.within;
+            said = record {
               value = [];
               taken = subst (λ (p : Written). Got polynomial s at p r.end) v (polynomial_got x.taken y.taken);
               ends = omega arith;
@@ -158,40 +162,45 @@ module _ (greatest : ℕ) (s : Bytes) (at : ℕ) (out : List ℕ) (t : TermRead)
               terms = refl;
               run = λ a. refl;
               kept = λ l. rw same within_refl;
-            });
-          })
+            };
+          }
 
-      pub field_terms_law : (r.end ≡ at + 1 → get_or s at 0 ≡ 48 → ⊥) → (both why byte : ℕ) → both ≡ first_of t.why r.why
-          → why ≡ first_of both (cond (ltb field_terms r.terms) TERMS ACCEPTED) → byte ≡ first_of t.byte r.byte
-          → FieldIs greatest s at out out' (record { why = why; end = r.end; terms = r.terms; outside = byte; extra = r.extra })
+      pub field_terms_law : (r.end ≡ at + 1 → get_or s at 0 ≡ 48 → ⊥) → (numbers why' : ℕ) → numbers ≡ cond (is_none (option_or t.outside r.outside)) ACCEPTED NUMBER
+          → why' ≡ first_of numbers (cond (ltb field_terms r.terms) TERMS ACCEPTED)
+          → FieldIs greatest s at out out' (Ok (record {
+            why = why';
+            end = r.end;
+            terms = r.terms;
+            outside = unwrap_or (option_or t.outside r.outside) 0;
+            extra = unwrap_or r.extra 0;
+          }))
       unfolding field_marks too_many_terms worded decode
-      field_terms_law z both why byte eb ew ey =
-          let x = part_took h n in
-          let y = part_took k.said m in
+      field_terms_law z numbers why' ea ec =
           let p = y.holds in
           let v = as_terms x.taken y.taken z in
           let d = told_then x.told y.told in
           record {
-            within = all;
-            said = inr (record {
+            within = all k.within;
+            said = record {
               value = x.value ∷ y.value;
               taken = subst (λ (p : Written). Got polynomial s at p r.end) v (polynomial_got x.taken y.taken);
               ends = d.ends;
               verdict =
-                  ew ∙ ap₂ (λ (a b : ℕ). first_of a (cond (ltb field_terms b) TERMS ACCEPTED)) (eb ∙ d.verdict) p.count
+                  ec ∙ ap₂ (λ (a b : ℕ). first_of a (cond (ltb field_terms b) TERMS ACCEPTED)) (ea ∙ ap (λ (b : Bool). cond b ACCEPTED NUMBER) (told_verdict d)) p.count
                   ∙ verdict_first (all_fine (term_marks greatest 0 x.value ++ more_marks greatest y.value)) (ltb field_terms (suc (length y.value)));
-              outside = ey ∙ d.outside;
-              excess = p.excess ∙ excess_first greatest at t.end x.value y.value x.told.ends;
+              outside = told_byte d;
+              excess = ap (λ (o : Option ℕ). unwrap_or o 0) p.excess ∙ excess_first greatest at t.end x.value y.value x.told.ends;
               terms = p.count;
               run = λ a.
-                  let c = both_accepted both (cond (ltb field_terms r.terms) TERMS ACCEPTED) (sym ew ∙ a) in
-                  let w = both_accepted t.why r.why (sym eb ∙ c.0) in
+                  let c = both_accepted numbers (cond (ltb field_terms r.terms) TERMS ACCEPTED) (sym ec ∙ a) in
+                  let n = neither_out t.outside r.outside (accepted_none (option_or t.outside r.outside) (sym ea ∙ c.0)) in
                   let l = ltb-false field_terms r.terms (few (ltb field_terms r.terms) c.1) in
-                  p.run w.1 l
-                  ∙ ap (λ (q : Poly). q ++ worded y.value) (put.run w.0 (omega arith) ∙ ap (λ (u : Term). u ∷ []) (x.holds w.0));
+                  p.run n.1 l
+                  ∙ ap (λ (q : Poly). q ++ worded y.value)
+                  (put.run (w ∙ ap (λ (o : Option ℕ). cond (is_none o) ACCEPTED NUMBER) n.0) (omega arith) ∙ ap (λ (u : Term). u ∷ []) (x.holds n.0));
               kept = λ l.
                   within_trans
                   (within_wider 0 (0 * term_words) ((0 + 1) * term_words) (r.terms * term_words) out mid (omega arith) (omega (arith, p.count)) (put.kept (omega arith)))
                   (within_wider 0 term_words (r.terms * term_words) (r.terms * term_words) mid out' (omega arith) (omega arith) (p.kept l));
-            });
+            };
           }

@@ -1,4 +1,4 @@
--- Bytes passed over in search of another, and what a byte ends in a text where its first place is known. Assumes nothing.
+-- What a byte ends in a text where its first place is known. Assumes nothing.
 use mathlib.Core.Path.{◌≡◌, refl, sym, ap, ap₂, ◌∙◌}
 use mathlib.Core.Bool.{Bool, true, false}
 use mathlib.Core.List.{[], ◌∷◌, ◌++◌}
@@ -9,24 +9,11 @@ use native.Mathlib.Omega.{arith}
 use lib.Dec.{ltb}
 use lib.ListN.{length, drop, get_or, length-drop, take-append-drop, drop_of_length-le}
 use lib.Seq.{drop-cons, drop-drop, take_all, get_or-take, get_or-drop}
-use borrow.Author.Count.{below_more}
 use borrow.Author.Tests.{eq-eqb, ne_eqb, ltb-true, ltb-false}
-use Rattle.words.specs.Parts.{part, among_eight}
+use Rattle.words.specs.Parts.{part}
 use Rattle.words.proofs.Parts.{length_part}
-use Rattle.words.proofs.Eight.{below_eight}
 use Rattle.paper.specs.Grammar.{Bytes, on_first, ended_by, lines}
 use Rattle.reader.specs.Search.{Without, FirstOrEnd, LineEnd}
-
--- ---- b is none of the bytes from at up to i
-module _ (b : ℕ) (s : Bytes) (at : ℕ) where
-  pub without_none : at ≤ length s → Without b s at at
-  without_none h = record { onward = omega arith; inside = h; none = λ k l u. absurd (let z : ⊥ = omega arith in z) }
-
-  pub without_one : (i : ℕ) → i < length s → (get_or s i 0 ≡ b → ⊥) → Without b s at i → Without b s at (i + 1)
-  without_one i h n w = let o = w.onward in record { onward = omega arith; inside = omega arith; none = below_more _ i w.none (λ _. n) }
-
-  pub without_eight : (i : ℕ) → i + 8 ≤ length s → among_eight s i b ≡ false → Without b s at i → Without b s at (i + 8)
-  without_eight i h e w = let o = w.onward in record { onward = omega arith; inside = h; none = below_eight _ s b (λ k n _. n) i w.none e }
 
 -- ---- parts
 module _ (s : Bytes) (at : ℕ) where

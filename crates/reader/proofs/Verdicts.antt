@@ -6,7 +6,7 @@ use native.Mathlib.Omega.{arith}
 use lib.Dec.{eqb}
 use borrow.Author.Tests.{eqb-true, eqb-false, eq-eqb, ne_eqb}
 use Rattle.ground.proofs.Tests.{cond_yes, cond_no}
-use Rattle.limits.specs.Verdicts.{ACCEPTED, FORM, NUMBER}
+use Rattle.limits.specs.Verdicts.{ACCEPTED, NUMBER}
 use Rattle.paper.specs.Rules.{first}
 use Rattle.reader.specs.Verdicts.{verdict_of, lesser_of}
 
@@ -33,12 +33,6 @@ verdict_both false false x y = refl
 
 pub verdict_two : {why v w : ℕ} (a b x y : Bool) → why ≡ lesser_of v w → v ≡ verdict_of a x → w ≡ verdict_of b y → why ≡ verdict_of (a && b) (x && y)
 verdict_two a b x y e f g = e ∙ ap₂ lesser_of f g ∙ sym (verdict_both a b x y)
-
-pub verdict_form : (a b : Bool) → verdict_of a b ≡ FORM → ⊥
-unfolding first
-verdict_form true true e = omega arith
-verdict_form true false e = omega arith
-verdict_form false b e = omega arith
 
 pub verdict_accepted : (a b : Bool) → verdict_of a b ≡ ACCEPTED → a ≡ true
 unfolding first

@@ -1,5 +1,5 @@
 -- Where the numbers of a field stand, told from what is written. A number is a mark; decimals have no leading zero, so a number is as wide as its spelling.
-use Rattle.std.specs.Prelude.{Bool, true, cond, List, [], ◌∷◌, ◌++◌, ℕ, ◌+◌, length, take}
+use Rattle.std.specs.Prelude.{Bool, true, cond, List, [], ◌∷◌, ◌++◌, ℕ, ◌+◌, length, take, Option, None, Some}
 use Rattle.ground.specs.Lists.{every, total, gather}
 use Rattle.limits.specs.Limits.{field_terms}
 use Rattle.paper.specs.Statement.{WrittenTerm, Written, within, is_variable, too_many_terms}
@@ -23,6 +23,11 @@ span ms = total (λ m. m.before + m.width) ms
 unfoldable pub first_outside : ℕ → List Mark → ℕ
 first_outside at [] = 0
 first_outside at (m ∷ ms) = let rest : ℕ = first_outside (at + (m.before + m.width)) ms in cond m.fine rest (at + m.before + 1)
+
+-- the same byte, if there is one
+unfoldable pub first_out : ℕ → List Mark → Option ℕ
+first_out at [] = None
+first_out at (m ∷ ms) = let rest : Option ℕ = first_out (at + (m.before + m.width)) ms in cond m.fine rest (Some (at + m.before + 1))
 
 -- ---- the numbers of what is written, the first of them behind some bytes
 unfoldable pub mark : (ℕ → Bool) → ℕ → ℕ → Mark

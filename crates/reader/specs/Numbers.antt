@@ -1,14 +1,10 @@
 -- What a decimal and a number in a range are, said of the code's answers.
-use Rattle.std.specs.Prelude.{◌≡◌, false, ◌⊎◌, ℕ, ◌^◌, ◌≤◌, length, drop}
-use Rattle.limits.specs.Verdicts.{ACCEPTED, FORM, NUMBER}
-use Rattle.paper.specs.Grammar.{Bytes, Reader, got, digits}
+use Rattle.std.specs.Prelude.{◌≡◌, false, cond, ℕ, ◌^◌, ◌≤◌, Option, None, Some, Result}
+use Rattle.paper.specs.Grammar.{Bytes, Reader}
 use Rattle.paper.specs.Statement.{within}
-use Rattle.reader.specs.Places.{Got, Fails}
-use Rattle.reader.specs.declared.number.Decimal.{Decimal}
-use Rattle.reader.specs.declared.number.Decimal.TheVariants.{Value, Large, Stuck}
+use Rattle.reader.specs.Places.{Got, StopsOr}
+use Rattle.reader.specs.declared.stop.Stop.{Stop}
 use Rattle.reader.specs.declared.number.Number.{Number}
-use Rattle.reader.specs.declared.number.Number.TheVariants.{Value as Ranged, Refused}
-use Rattle.reader.specs.declared.number.Refusal.{Refusal}
 
 -- a number that no word holds ends at e
 pub record TooLarge (read : Reader ℕ) (s : Bytes) (at e : ℕ) : Type 0 where
@@ -16,23 +12,24 @@ pub record TooLarge (read : Reader ℕ) (s : Bytes) (at e : ℕ) : Type 0 where
   pub large : 2 ^ 64 ≤ value
   pub taken : Got read s at value e
 
-abbrev pub DecimalIs : Reader ℕ → Bytes → ℕ → Decimal → Type 0
-DecimalIs read s at (Value n e) = Got read s at n e
-DecimalIs read s at (Large e) = TooLarge read s at e
-DecimalIs read s at (Stuck p) = Fails read s at p
+-- a decimal's value, or none, and its end
+abbrev pub ValueAt : Reader ℕ → Bytes → ℕ → ℕ → Option ℕ → Type 0
+ValueAt read s at e (Some v) = Got read s at v e
+ValueAt read s at e None = TooLarge read s at e
 
--- the digits from at on end at e, whatever stands before them
-pub record DigitsEnd (s : Bytes) (at e : ℕ) : Type 0 where
-  pub value : ℕ → ℕ
-  pub reads : (v : ℕ) → digits v (drop at s) ≡ got (value v) (drop e s)
-  pub onward : at ≤ e
-  pub inside : e ≤ length s
+abbrev pub DecimalAt : Reader ℕ → Bytes → ℕ → Number → Type 0
+DecimalAt read s at n = ValueAt read s at n.end n.value
 
--- a decimal outside a range is NUMBER, no decimal is FORM
-abbrev pub outside_of : Decimal → Number
-outside_of (Value n e) = Refused NUMBER e
-outside_of (Large e) = Refused NUMBER e
-outside_of (Stuck p) = Refused FORM p
+abbrev pub DecimalIs : Reader ℕ → Bytes → ℕ → Result Number Stop → Type 0
+DecimalIs read s at r = StopsOr read s at (DecimalAt read s at) r
+
+-- a value out of the range is none
+abbrev pub kept : ℕ → ℕ → Option ℕ → Option ℕ
+kept low high (Some v) = cond (within low high v) (Some v) None
+kept low high None = None
+
+abbrev pub clipped : ℕ → ℕ → Number → Number
+clipped low high n = record { value = kept low high n.value; end = n.end }
 
 -- a number in the range ends at e, and one outside it does
 pub record InRange (read : Reader ℕ) (low high : ℕ) (s : Bytes) (at v e : ℕ) : Type 0 where
@@ -45,11 +42,12 @@ pub record OutOfRange (read : Reader ℕ) (low high : ℕ) (s : Bytes) (at e : �
   pub outside : within low high value ≡ false
   pub taken : Got read s at value e
 
-abbrev pub NumberIs : Reader ℕ → ℕ → ℕ → Bytes → ℕ → Number → Type 0
-NumberIs read low high s at (Ranged v e) = InRange read low high s at v e
-NumberIs read low high s at (Refused why e) = ((why ≡ NUMBER) × OutOfRange read low high s at e) ⊎ ((why ≡ FORM) × Fails read s at e)
+abbrev pub RangedAt : Reader ℕ → ℕ → ℕ → Bytes → ℕ → ℕ → Option ℕ → Type 0
+RangedAt read low high s at e (Some v) = InRange read low high s at v e
+RangedAt read low high s at e None = OutOfRange read low high s at e
 
--- how a number was refused
-abbrev pub refused_of : Number → Refusal
-refused_of (Ranged v e) = record { why = ACCEPTED; end = e }
-refused_of (Refused why e) = record { why = why; end = e }
+abbrev pub NumberAt : Reader ℕ → ℕ → ℕ → Bytes → ℕ → Number → Type 0
+NumberAt read low high s at n = RangedAt read low high s at n.end n.value
+
+abbrev pub NumberIs : Reader ℕ → ℕ → ℕ → Bytes → ℕ → Result Number Stop → Type 0
+NumberIs read low high s at r = StopsOr read s at (NumberAt read low high s at) r

@@ -6,5 +6,6 @@ pub mod field;
 pub mod find;
 pub mod keyword;
 pub mod number;
+pub mod stop;
 pub mod term;
 pub mod verdict;

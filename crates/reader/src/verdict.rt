@@ -6,11 +6,9 @@ ghost use Rattle.reader.specs.Verdicts.{lesser_of};
 pub fn lesser(a: u64, b: u64) -> u64
     ensures { result ≡ lesser_of a b }
 {
-    if a == limits::ACCEPTED {
-        return b;
+    if a == limits::ACCEPTED || b == limits::NUMBER {
+        b
+    } else {
+        a
     }
-    if b == limits::NUMBER {
-        return b;
-    }
-    a
 }

@@ -1,25 +1,26 @@
--- Whether a goal is one of the stored polynomials, and comparing runs that begin inside a slice. Assumes nothing.
+-- Whether a goal is one of the stored polynomials, its copy, and comparing runs that begin inside a slice. Assumes nothing.
 use mathlib.Core.Path.{◌≡◌, refl, sym, ap, ap₂, subst, ◌∙◌}
 use mathlib.Core.Bool.{Bool, true, false, ◌||◌, or_assoc}
 use mathlib.Core.List.{List, [], ◌∷◌, ◌++◌}
 use Prim.Native.Nat.{ℕ, ◌+◌, ◌-◌, ◌*◌, ◌≤◌, ◌<◌}
 use native.Mathlib.Omega.{arith}
-use lib.ListN.{length, drop, get_or}
+use lib.ListN.{length, drop, length-drop}
+use lib.Seq.{paste}
+use Rattle.std.specs.List.{copy_within}
 use Rattle.ground.specs.Lists.{any}
 use Rattle.words.specs.Parts.{part}
-use Rattle.words.proofs.Parts.{part_rest}
-use Rattle.limits.specs.Limits.{term_words}
+use Rattle.words.proofs.Parts.{part_rest, paste_within, within_wider}
+use Rattle.limits.specs.Limits.{field_terms, term_words, least_scratch}
 use Rattle.algebra.specs.Polynomial.{Poly, equal}
 use Rattle.terms.specs.Terms.{decode}
+use Rattle.terms.proofs.Decode.{decode_paste}
 use Rattle.paper.specs.Rules.{Entry, Store, holds_goal}
-use Rattle.table.specs.Table.{firsts, poly_at, entry_at, store_of_columns, PackedColumns}
+use Rattle.table.specs.declared.Table.{Table}
+use Rattle.table.specs.Table.{firsts, entry_at, store_of}
 use Rattle.table.proofs.Firsts.{behind, firsts_more, firsts_split}
-use Rattle.table.proofs.Packing.{ends_used}
+use Rattle.scratch.specs.Scratch.{stated_at, goal_at, RunAt}
 
 -- ---- runs in the rest of a slice
-pub rest_equal : (m a : ℕ) (q : Poly) (s : List ℕ) → equal (decode m (part a (length s - a) s)) q ≡ equal (decode m (drop a s)) q
-rest_equal m a q s = ap (λ (w : List ℕ). equal (decode m w) q) (part_rest a s)
-
 pub rests_equal : (m n a b : ℕ) (s : List ℕ)
     → equal (decode m (part a (length s - a) s)) (decode n (part b (length s - b) s)) ≡ equal (decode m (drop a s)) (decode n (drop b s))
 rests_equal m n a b s = ap₂ (λ (x y : List ℕ). equal (decode m x) (decode n y)) (part_rest a s) (part_rest b s)
@@ -30,36 +31,42 @@ unfolding holds_goal any
 holds_append g [] t = refl
 holds_append g (e ∷ s) t = ap (λ (b : Bool). equal e.poly g || b) (holds_append g s t) ∙ sym (or_assoc (equal e.poly g) (holds_goal g s) (holds_goal g t))
 
--- the words of the j-th
-pub stored_words : (starts counts pool : List ℕ) (stored j : ℕ) → ((used : ℕ) × PackedColumns starts counts stored used × (used * term_words ≤ length pool)) → j < stored
-    → get_or starts j 0 * term_words + get_or counts j 0 * term_words ≤ length pool
-stored_words starts counts pool stored j p h = omega (arith, ends_used starts counts stored p.0 j p.1 h, p.2)
+module _ (t : Table) (pool : List ℕ) (g : Poly) where
+  abbrev at : ℕ → Entry
+  at = entry_at t.indices t.starts t.counts pool
 
--- none of the first j is g, whatever their indices
-pub record NoneIs (starts counts pool : List ℕ) (g : Poly) (j : ℕ) : Type 0 where
-  pub under : (indices : List ℕ) → holds_goal g (store_of_columns indices starts counts pool j) ≡ false
+  -- none of the first j is g
+  abbrev pub NoneIs : ℕ → Type 0
+  NoneIs j = holds_goal g (firsts at j) ≡ false
 
-module _ {starts counts pool : List ℕ} {g : Poly} where
-  pub none_start : NoneIs starts counts pool g 0
+  pub none_start : NoneIs 0
   unfolding holds_goal firsts any
-  none_start = record { under = λ indices. refl }
+  none_start = refl
 
-  -- t tells whether the j-th is g
-  module _ {j : ℕ} {t : Bool} (e : t ≡ equal (poly_at starts counts pool j) g) (none : NoneIs starts counts pool g j) where
-    pub none_more : t ≡ false → NoneIs starts counts pool g (j + 1)
+  -- b tells whether the j-th is g
+  module _ (j : ℕ) (none : NoneIs j) {b : Bool} (e : b ≡ equal (at j).poly g) where
+    pub none_more : b ≡ false → NoneIs (j + 1)
     unfolding holds_goal any
-    none_more f = record { under = more }
-      where
-        more : (indices : List ℕ) → holds_goal g (store_of_columns indices starts counts pool (j + 1)) ≡ false
-        more indices =
-            let at : ℕ → Entry = entry_at indices starts counts pool in
-            ap (holds_goal g) (firsts_more at j) ∙ holds_append g (firsts at j) (at j ∷ []) ∙ rw (none.under indices, ← e, f)
+    none_more f =
+        ap (holds_goal g) (firsts_more at j) ∙ holds_append g (firsts at j) (at j ∷ []) ∙ rw (none, ← e, f)
 
-    pub one_is : (stored : ℕ) → j < stored → t ≡ true → (indices : List ℕ) → true ≡ holds_goal g (store_of_columns indices starts counts pool stored)
+    pub one_is : j < t.stored → b ≡ true → true ≡ holds_goal g (store_of t pool)
     unfolding holds_goal any
-    one_is stored h f indices =
-        let at : ℕ → Entry = entry_at indices starts counts pool in
-        sym (ap (holds_goal g) (firsts_split at j stored h) ∙ holds_append g (firsts at j) (at j ∷ behind at j stored) ∙ rw (none.under indices, ← e, f))
+    one_is h f =
+        sym (ap (holds_goal g) (firsts_split at j t.stored h) ∙ holds_append g (firsts at j) (at j ∷ behind at j t.stored) ∙ rw (none, ← e, f))
 
-  pub none_end : {j stored : ℕ} → j ≡ stored → NoneIs starts counts pool g j → (indices : List ℕ) → false ≡ holds_goal g (store_of_columns indices starts counts pool stored)
-  none_end e none indices = sym (subst (λ (n : ℕ). holds_goal g (store_of_columns indices starts counts pool n) ≡ false) e (none.under indices))
+-- ---- the goal's region
+pub copied : {n : ℕ} {s r : List ℕ} → n ≤ field_terms → least_scratch ≤ length s → r ≡ copy_within s stated_at (stated_at + n * term_words) goal_at
+    → RunAt goal_at (decode n (drop stated_at s)) s r n
+copied {n} {s} {r} h l e = subst (λ (x : List ℕ). RunAt goal_at (decode n (drop stated_at s)) s x n) (sym f) (record {
+  run = decode_paste n goal_at s (drop stated_at s) (omega arith) enough;
+  few = h;
+  within = within_wider goal_at goal_at (goal_at + n * term_words) (goal_at + field_terms * term_words) s _ (omega arith) (omega arith)
+      (paste_within s goal_at (drop stated_at s) (n * term_words) (omega arith) enough);
+})
+  where
+    enough : n * term_words ≤ length (drop stated_at s)
+    enough = omega (arith, length-drop stated_at s)
+
+    f : r ≡ paste s goal_at (drop stated_at s) (n * term_words)
+    f = let k : stated_at + n * term_words - stated_at ≡ n * term_words = omega arith in e ∙ ap (paste s goal_at (drop stated_at s)) k

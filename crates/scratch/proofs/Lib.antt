@@ -1,6 +1,6 @@
 pub mod Reducing
-pub mod Copying
 pub mod Keeping
-pub mod Goals
+pub mod Products
 pub mod Squares
+pub mod Goals
 pub mod Decided

@@ -2,19 +2,20 @@
 
 #![tactic(auto)]
 
-ghost use Rattle.std.specs.Prelude.{◌≡◌, List, ℕ, ◌+◌, ◌*◌, ◌≤◌, ◌<◌, length, drop};
+ghost use Rattle.std.specs.Prelude.{◌≡◌, ℕ, ◌+◌, ◌*◌, ◌≤◌, ◌<◌, length, drop};
 ghost use Rattle.words.specs.Parts.{Within};
 ghost use Rattle.limits.specs.Limits.{field_terms, line_products, term_words, variables, least_scratch};
 ghost use Rattle.algebra.specs.Polynomial.{equal, products, product, extension};
-ghost use Rattle.terms.specs.Terms.{decode, rounded, Leaves};
+ghost use Rattle.terms.specs.Terms.{decode, rounded, Leaves, Appended};
 ghost use Rattle.paper.specs.Statement.{Written};
 ghost use Rattle.paper.specs.Rules.{holds_goal};
 ghost use Rattle.written.specs.Worded.{Holds};
-ghost use Rattle.table.specs.Table.{PackedColumns, store_of_columns};
+ghost use Rattle.table.specs.Table.{PackedColumns, store_of};
 ghost use Rattle.scratch.specs.Scratch.{stated_at, goal_at, RunAt, ReducedAt};
 
-use table::{Counts, Starts};
+use table::Table;
 use words::Set;
+use words::ring::Ring;
 
 // The words of a region for one field.
 pub const REGION: usize = limits::FIELD_TERMS * limits::TERM_WORDS;
@@ -33,14 +34,13 @@ pub struct Reduced {
     pub shown: Set,
 }
 
-// Reduces a field, the n terms as written in the region from word base on, modulo 2 ^ k.
-pub fn reduce_field(scratch: &mut [u64], base: usize, n: usize, k: u32) -> Reduced
-    requires { ((w : Written) × Holds w n base scratch.old) × (base + field_terms * term_words ≤ length scratch.old) × (1 ≤ k)
-        × (k ≤ 64) }
-    ensures { (w : Written) → Holds w n base scratch.old → ReducedAt k w base scratch.old scratch.new result }
+// Reduces a field, the n terms as written in the region from word base on, in the ring.
+pub fn reduce_field(scratch: &mut [u64], base: usize, n: usize, ring: Ring) -> Reduced
+    requires { ((w : Written) × Holds w n base scratch.old) × (base + field_terms * term_words ≤ length scratch.old) }
+    ensures { (w : Written) → Holds w n base scratch.old → ReducedAt ring.k w base scratch.old scratch.new result }
 {
     let last = base + REGION;
-    let left = reduction::reduce(&mut scratch[base..last], n, k);
+    let left = reduction::reduce(&mut scratch[base..last], n, ring);
     Reduced {
         terms: left,
         shown: terms::variables(&scratch[base..], left),
@@ -52,38 +52,34 @@ pub fn copy_to_goal(scratch: &mut [u64], n: usize)
     requires { (n ≤ field_terms) × (least_scratch ≤ length scratch.old) }
     ensures { RunAt goal_at (decode n (drop stated_at scratch.old)) scratch.old scratch.new n }
 {
-    let mut i = 0;
-    while i < n {
-        let t = terms::read_term(scratch, STATED + i * limits::TERM_WORDS);
-        terms::write_term(scratch, GOAL + i * limits::TERM_WORDS, t);
-        i += 1;
-    }
+    scratch.copy_within(STATED..STATED + n * limits::TERM_WORDS, GOAL);
 }
 
 // Whether the n terms of a goal are one of the stored polynomials.
-// The columns share a lifetime: two fields of a local are lent at one and the same only.
-pub fn is_stored<'a>(
-    starts: &'a Starts,
-    counts: &'a Counts,
-    stored: usize,
-    pool: &[u64],
-    goal: &[u64],
-    n: usize,
-) -> bool
-    requires { ((used : ℕ) × PackedColumns starts.now counts.now stored used × (used * term_words ≤ length pool.now))
+pub fn is_stored(table: &Table, pool: &[u64], goal: &[u64], n: usize) -> bool
+    requires { ((used : ℕ) × PackedColumns table.now.starts table.now.counts table.now.stored used × (used * term_words ≤ length pool.now))
         × (n * term_words ≤ length goal.now) }
-    ensures { (indices : List ℕ) → result ≡ holds_goal (decode n goal.now) (store_of_columns indices starts.now counts.now pool.now stored) }
+    ensures { result ≡ holds_goal (decode n goal.now) (store_of table.now pool.now) }
 {
-    let mut j = 0;
-    while j < stored {
-        let at = starts[j] as usize * limits::TERM_WORDS;
-        let m = counts[j] as usize;
+    for j in 0..table.stored {
+        let at = table.starts[j] as usize * limits::TERM_WORDS;
+        let m = table.counts[j] as usize;
         if terms::same_run(&pool[at..], m, goal, n) {
             return true;
         }
-        j += 1;
     }
     false
+}
+
+// Writes the products of the l terms of a with the m terms of b behind the n terms of out, coefficients modulo 2 ^ 64.
+pub fn append_products(out: &mut [u64], n: usize, a: &[u64], l: usize, b: &[u64], m: usize)
+    requires { ((n + l * m) * term_words ≤ length out.old) × (l * term_words ≤ length a.now) × (m * term_words ≤ length b.now) }
+    ensures { Appended 0 n (l * m) (rounded (products (decode l a.now) (decode m b.now))) out.old out.new }
+{
+    for i in 0..l {
+        let t = terms::read_term(a, i * limits::TERM_WORDS);
+        terms::append_times(out, n + i * m, t, b, m);
+    }
 }
 
 // Writes the products of the n terms of the stated region with each other from word 0 on, coefficients modulo 2 ^ 64.
@@ -91,33 +87,29 @@ fn square(scratch: &mut [u64], n: usize)
     requires { (n * n ≤ line_products) × (least_scratch ≤ length scratch.old) }
     ensures { Leaves line_products (rounded (products (decode n (drop stated_at scratch.old)) (decode n (drop stated_at scratch.old)))) scratch.old scratch.new (n * n) }
 {
-    let mut i = 0;
-    while i < n {
-        let t = terms::read_term(scratch, STATED + i * limits::TERM_WORDS);
-        terms::append_times_within(scratch, 0, i * n, t, STATED, n);
-        i += 1;
-    }
+    let (front, stated) = scratch.split_at_mut(STATED);
+    append_products(front, 0, stated, n, stated, n);
 }
 
-// Whether the n terms of the stated region are their own square modulo 2 ^ k.
-pub fn is_bit(scratch: &mut [u64], n: usize, k: u32) -> bool
-    requires { (n * n ≤ line_products) × (least_scratch ≤ length scratch.old) × (1 ≤ k) × (k ≤ 64) }
-    ensures equals { result ≡ equal (product k (decode n (drop stated_at scratch.old)) (decode n (drop stated_at scratch.old))) (decode n (drop stated_at scratch.old)) }
+// Whether the n terms of the stated region are their own square in the ring.
+pub fn is_bit(scratch: &mut [u64], n: usize, ring: Ring) -> bool
+    requires { (n * n ≤ line_products) × (least_scratch ≤ length scratch.old) }
+    ensures equals { result ≡ equal (product ring.k (decode n (drop stated_at scratch.old)) (decode n (drop stated_at scratch.old))) (decode n (drop stated_at scratch.old)) }
     ensures within { Within 0 stated_at scratch.old scratch.new }
 {
     square(scratch, n);
-    reduction::is_reduced(scratch, STATED, n, n * n, k)
+    reduction::is_reduced(scratch, STATED, n, n * n, ring)
 }
 
 // Makes -v + p of p, the n terms of the stated region, and gives how many terms it has.
-pub fn define(scratch: &mut [u64], n: usize, v: usize, k: u32) -> usize
-    requires { (n < field_terms) × (v < variables) × (least_scratch ≤ length scratch.old) × (1 ≤ k) × (k ≤ 64) }
-    ensures { RunAt stated_at (extension k v (decode n (drop stated_at scratch.old))) scratch.old scratch.new result }
+pub fn define(scratch: &mut [u64], n: usize, v: usize, ring: Ring) -> usize
+    requires { (n < field_terms) × (v < variables) × (least_scratch ≤ length scratch.old) }
+    ensures { RunAt stated_at (extension ring.k v (decode n (drop stated_at scratch.old))) scratch.old scratch.new result }
 {
     let set = words::with([0; limits::SET_WORDS], v);
     let t = terms::term_of(set, u64::MAX);
     terms::write_term(scratch, STATED + n * limits::TERM_WORDS, t);
-    reduction::reduce(&mut scratch[STATED..FACTOR], n + 1, k)
+    reduction::reduce(&mut scratch[STATED..FACTOR], n + 1, ring)
 }
 
 // Whether the n terms of the stated region are the goal.

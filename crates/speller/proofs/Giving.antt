@@ -11,6 +11,10 @@ use borrow.Author.Tests.{leb-true, leb-false, lt-ltb, le-ltb}
 use Rattle.ground.proofs.Tests.{cond_yes, cond_no}
 use Rattle.limits.specs.Limits.{line_bytes, least_spelling_scratch}
 use Rattle.limits.specs.Verdicts.{ACCEPTED, SHORT, LONGLINE, FULL}
+use Rattle.limits.specs.Refusals.{number_of}
+use Rattle.limits.specs.declared.refusal.Refusal.{Refusal}
+use Rattle.limits.specs.declared.refusal.Refusal.TheVariants.{Short, LongLine, Full}
+use Rattle.std.specs.Prelude.{Ok, Err, IsErrAnd}
 use Rattle.algebra.specs.Polynomial.{Poly, reduce, Reduced}
 use Rattle.algebra.proofs.Reduced.{reduced_reduce}
 use Rattle.algebra.proofs.Sums.{bound, below_bound}
@@ -21,27 +25,30 @@ use Rattle.paper.proofs.Ranges.{ring_most}
 use Rattle.written.specs.Worded.{Holds}
 use Rattle.written.proofs.Meaning.{worded_reduced}
 use Rattle.writer.specs.Writing.{written, Wrote, Cut}
-use Rattle.speller.specs.Spells.{Gives, Spells, fitted, Accepts}
-use Rattle.speller.specs.declared.Spelled.{Spelled as Answer}
+use Rattle.speller.specs.Spells.{Answer, Gives, Spells, fitted, Accepts}
 use Rattle.speller.proofs.Judging.{accepted_fitted, not_short}
 
 -- ---- refused, or written
 pub gives_as : {x y : Spelled} {out out' : Bytes} {r : Answer} → x ≡ y → Gives x out out' r → Gives y out out' r
 gives_as {out = out} {out' = out'} {r = r} e g = subst (λ (z : Spelled). Gives z out out' r) e g
 
-pub gives_refused : {v : ℕ} {out : Bytes} {r : Answer} → (r.verdict ≡ v) × (r.written ≡ 0) → Gives (refuse v) out out r
+pub gives_refused : {out : Bytes} (why : Refusal) → Gives (refuse (number_of why)) out out (Err why)
 unfolding output_after
-gives_refused h = record { verdict = h.0; written = h.1; output = refl }
+gives_refused why = record { verdict = refl; written = refl; output = refl }
+
+-- as at a `?`
+pub gives_on : {out : Bytes} (why : Refusal) (r : Answer) → IsErrAnd r (λ q. q ≡ why) → Gives (refuse (number_of why)) out out r
+gives_on why (Ok n) h = absurd h
+gives_on {out} why (Err q) h = subst (λ (y : Refusal). Gives (refuse (number_of y)) out out (Err q)) h (gives_refused q)
 
 module _ (w : Bytes) {out : Bytes} where
-  pub gives_full : {r : Answer} → (r.verdict ≡ FULL) × (r.written ≡ 0) → leb (length w) (length out) ≡ false → Gives (fitted w (length out)) out out r
+  pub gives_full : leb (length w) (length out) ≡ false → Gives (fitted w (length out)) out out (Err Full)
   unfolding fitted
-  gives_full h f =
+  gives_full f =
       gives_as (sym (cond_yes (ltb (length out) (length w)) (refuse FULL) (record { verdict = ACCEPTED; spelling = w }) (lt-ltb (length out) (length w) (leb-false (length w) (length out) f))))
-      (gives_refused h)
+      (gives_refused Full)
 
-  pub gives_written : {out' : Bytes} {n : ℕ} → leb (length w) (length out) ≡ true → Wrote out 0 w out' n
-      → Gives (fitted w (length out)) out out' (record { verdict = ACCEPTED; written = n })
+  pub gives_written : {out' : Bytes} {n : ℕ} → leb (length w) (length out) ≡ true → Wrote out 0 w out' n → Gives (fitted w (length out)) out out' (Ok n)
   unfolding fitted output_after written
   gives_written f h =
       gives_as (sym (cond_no (ltb (length out) (length w)) (refuse FULL) (record { verdict = ACCEPTED; spelling = w }) (le-ltb (length out) (length w) (leb-true (length w) (length out) f))))
@@ -67,21 +74,21 @@ gives_field {field} {k} {out = out} a h g =
     (gives_same k (ap (reduce k) h.run ∙ worded_reduced k (ring_most k a.ring) a.value a.ranged) g)
 
 -- ---- the whole
-module _ {field : Bytes} {k : ℕ} {scratch : List ℕ} {out : Bytes} {r : Answer} where
-  spells : (x : Spelled) {scratch' : List ℕ} {out' : Bytes} → spell_field field k (length scratch) (length out) ≡ x → Gives x out out' r
+module _ {field : Bytes} {k : ℕ} {scratch : List ℕ} {out : Bytes} where
+  spells : {r : Answer} (x : Spelled) {scratch' : List ℕ} {out' : Bytes} → spell_field field k (length scratch) (length out) ≡ x → Gives x out out' r
       → scratch' ≡ scratch_after x.verdict scratch → Spells field k scratch out r scratch' out'
   spells x e g c = record { gives = gives_as (sym e) g; cleared = c ∙ ap (λ (y : Spelled). scratch_after y.verdict scratch) (sym e) }
 
-  pub spells_short : length scratch < least_spelling_scratch → (r.verdict ≡ SHORT) × (r.written ≡ 0) → Spells field k scratch out r scratch out
+  pub spells_short : length scratch < least_spelling_scratch → Spells field k scratch out (Err Short) scratch out
   unfolding spell_field scratch_after
-  spells_short h g = spells (refuse SHORT) (rw (lt-ltb (length scratch) least_spelling_scratch h)) (gives_refused g) refl
+  spells_short h = spells (refuse SHORT) (rw (lt-ltb (length scratch) least_spelling_scratch h)) (gives_refused Short) refl
 
   module _ {scratch' : List ℕ} (h : least_spelling_scratch ≤ length scratch) (z : scratch' ≡ replicate (length scratch) 0) where
-    pub spells_long : line_bytes < length field → (r.verdict ≡ LONGLINE) × (r.written ≡ 0) → Spells field k scratch out r scratch' out
+    pub spells_long : line_bytes < length field → Spells field k scratch out (Err LongLine) scratch' out
     unfolding spell_field scratch_after
-    spells_long l g = spells (refuse LONGLINE) (rw (le-ltb (length scratch) least_spelling_scratch h, lt-ltb line_bytes (length field) l)) (gives_refused g) z
+    spells_long l = spells (refuse LONGLINE) (rw (le-ltb (length scratch) least_spelling_scratch h, lt-ltb line_bytes (length field) l)) (gives_refused LongLine) z
 
-    pub spells_read : {out' : Bytes} → length field ≤ line_bytes → Gives (spell_read k (length out) (whole_field field)) out out' r → Spells field k scratch out r scratch' out'
+    pub spells_read : {r : Answer} {out' : Bytes} → length field ≤ line_bytes → Gives (spell_read k (length out) (whole_field field)) out out' r → Spells field k scratch out r scratch' out'
     unfolding spell_field scratch_after
     spells_read l g =
         let x : Spelled = spell_read k (length out) (whole_field field) in

@@ -1,9 +1,8 @@
 -- The verdict of a field before any room is looked at, and what the definitions of the paper say for each. Assumes nothing.
-use mathlib.Core.Path.{◌≡◌, refl, sym, ap, ◌∙◌}
+use mathlib.Core.Path.{◌≡◌, refl, sym, ap, subst, ◌∙◌}
 use mathlib.Core.Bool.{Bool, true, false, ◌&&◌, not, cond, and-false}
-use mathlib.Core.Logic.{⊎_elim}
 use mathlib.Core.List.{List, [], ◌∷◌}
-use Prim.Native.Nat.{ℕ, ◌<◌}
+use Prim.Native.Nat.{ℕ, ◌≤◌, ◌<◌}
 use native.Mathlib.Omega.{arith}
 use lib.Dec.{eqb, ltb}
 use lib.ListN.{length, drop, length-drop, drop_of_length-le}
@@ -15,7 +14,9 @@ use Rattle.paper.specs.Statement.{Written, modulo, is_ring, in_range, too_many_t
 use Rattle.paper.specs.Rules.{first}
 use Rattle.paper.specs.Spelling.{Spelled, refuse, spell, spelling_rules, spell_read, whole_field}
 use Rattle.paper.proofs.ReadBack.{whole_end}
-use Rattle.reader.specs.Fields.{FieldAt, FieldIs}
+use Rattle.reader.specs.Places.{Fails}
+use Rattle.reader.specs.Marks.{all_fine, field_marks}
+use Rattle.reader.specs.Fields.{FieldAt}
 use Rattle.reader.specs.declared.field.FieldRead.{FieldRead}
 use Rattle.reader.proofs.Ranges.{field_fine, field_holds}
 use Rattle.speller.specs.Spells.{fitted, Accepts, FieldJudged}
@@ -53,56 +54,52 @@ module _ (k room : ℕ) (p : Written) where
         go false = refl
 
 -- ---- the verdict
-not_form : (a b : Bool) → first ((NUMBER, a) ∷ (TERMS, b) ∷ []) ≡ FORM → ⊥
-unfolding first
-not_form true b e = omega arith
-not_form false true e = omega arith
-not_form false false e = omega arith
+pub judged_stuck : {field : Bytes} {p : ℕ} (k room : ℕ) → Fails polynomial field 0 p → spell_read k room (whole_field field) ≡ refuse FORM
+unfolding spell_read
+judged_stuck {field} {p} k room h = ap (spell_read k room) (whole_stuck field (drop p field) h.reads)
 
 refused_as : {field : Bytes} {k : ℕ} {words : List ℕ} {n : ℕ} (v : ℕ) → 0 < v → ((room : ℕ) → spell_read k room (whole_field field) ≡ refuse v) → FieldJudged field k words n v
-refused_as v l e = record { refused = λ n. e; accepted = λ z. absurd (let y : ⊥ = omega arith in y) }
+refused_as v l e = record { refused = λ n. e; accepted = λ z. absurd (let y : ⊥ = omega (arith, l, z) in y) }
 
-module _ {field : Bytes} {s r : List ℕ} {f : FieldRead} (h : FieldIs greatest_magnitude field 0 s r f) where
-  pub judged_stuck : {k : ℕ} → f.why ≡ FORM → FieldJudged field k r f.terms f.why
+module _ {field : Bytes} {s r : List ℕ} {f : FieldRead} (took : FieldAt greatest_magnitude field 0 s r f) where
+  pub judged_below : f.why ≤ 17
+  unfolding first
+  judged_below = subst (λ (v : ℕ). v ≤ 17) (sym took.verdict) (go (not (all_fine (field_marks greatest_magnitude took.value))) (too_many_terms took.value))
+    where
+      go : (a b : Bool) → first ((NUMBER, a) ∷ (TERMS, b) ∷ []) ≤ 17
+      go true b = omega arith
+      go false true = omega arith
+      go false false = omega arith
+
+  pub judged_some : {k : ℕ} → (f.end ≡ length field → ⊥) → FieldJudged field k r f.terms FORM
   unfolding spell_read
-  judged_stuck {k} e =
-      refused_as f.why (omega arith)
-      (λ room. ⊎_elim (λ x. ap (spell_read k room) (whole_stuck field (drop f.end field) x.stops.reads) ∙ ap refuse (sym e))
-      (λ x. absurd (not_form _ _ (sym x.verdict ∙ e))) h.said)
+  judged_some {k} e =
+      refused_as FORM (omega arith)
+      (λ room. ap (spell_read k room) (whole_some field (drop f.end field) took.value took.taken.reads (omega (arith, length-drop f.end field, took.taken.inside))))
 
-  module _ (n : f.why ≡ FORM → ⊥) where
-    took : FieldAt greatest_magnitude field 0 s r f
-    took = ⊎_elim (λ x. absurd (n (ap (λ (g : FieldRead). g.why) x.gives))) (λ x. x) h.said
+  module _ (e : f.end ≡ length field) where
+    ended : polynomial field ≡ got took.value []
+    ended = took.taken.reads ∙ ap (λ (t : Bytes). got took.value t) (drop_of_length-le field {i = f.end} (omega arith))
 
-    pub judged_some : {k : ℕ} → (f.end ≡ length field → ⊥) → FieldJudged field k r f.terms FORM
-    unfolding spell_read
-    judged_some {k} e =
-        refused_as FORM (omega arith)
-        (λ room. ap (spell_read k room) (whole_some field (drop f.end field) took.value took.taken.reads (omega (arith, length-drop f.end field, took.taken.inside))))
+    whole : (k room : ℕ) → spell_read k room (whole_field field) ≡ spell_read k room (got took.value [])
+    whole k room = ap (spell_read k room) (whole_end field took.value ended)
 
-    module _ (e : f.end ≡ length field) where
-      ended : polynomial field ≡ got took.value []
-      ended = took.taken.reads ∙ ap (λ (t : Bytes). got took.value t) (drop_of_length-le field {i = f.end} (omega arith))
+    pub judged_ring : {k : ℕ} → is_ring (modulo k) ≡ false → FieldJudged field k r f.terms NUMBER
+    judged_ring {k} g =
+        refused_as NUMBER (omega arith) (λ room. whole k room ∙ request_number k room took.value (ap (λ (x : Bool). x && in_range took.value) g))
 
-      whole : (k room : ℕ) → spell_read k room (whole_field field) ≡ spell_read k room (got took.value [])
-      whole k room = ap (spell_read k room) (whole_end field took.value ended)
-
-      pub judged_ring : {k : ℕ} → is_ring (modulo k) ≡ false → FieldJudged field k r f.terms NUMBER
-      judged_ring {k} g =
-          refused_as NUMBER (omega arith) (λ room. whole k room ∙ request_number k room took.value (ap (λ (x : Bool). x && in_range took.value) g))
-
-      pub judged_read : {k : ℕ} → is_ring (modulo k) ≡ true → FieldJudged field k r f.terms f.why
-      unfolding first
-      judged_read {k} g = record {
-        refused = λ z room. whole k room ∙ verdict room _ _ (sym (field_fine took.value)) refl (λ y. z (took.verdict ∙ y)) ∙ ap refuse (sym took.verdict);
-        accepted = λ z. let w = field_holds took z in (record { value = took.value; reads = ended; ranged = w.ranged; short = w.short; ring = g }, w);
-      }
-        where
-          verdict : (room : ℕ) (x y : Bool) → in_range took.value ≡ x → too_many_terms took.value ≡ y → (first ((NUMBER, not x) ∷ (TERMS, y) ∷ []) ≡ ACCEPTED → ⊥)
-              → spell_read k room (got took.value []) ≡ refuse (first ((NUMBER, not x) ∷ (TERMS, y) ∷ []))
-          verdict room false y a b z = request_number k room took.value (ap (λ (x : Bool). is_ring (modulo k) && x) a ∙ and-false (is_ring (modulo k)))
-          verdict room true true a b z = request_terms k room took.value (and_both (is_ring (modulo k)) (in_range took.value) g a) b
-          verdict room true false a b z = absurd (z refl)
+    pub judged_read : {k v : ℕ} → is_ring (modulo k) ≡ true → v ≡ f.why → FieldJudged field k r f.terms v
+    unfolding first
+    judged_read {k} g q = subst (FieldJudged field k r f.terms) (sym q) (record {
+      refused = λ z room. whole k room ∙ verdict room _ _ (sym (field_fine took.value)) refl (λ y. z (took.verdict ∙ y)) ∙ ap refuse (sym took.verdict);
+      accepted = λ z. let w = field_holds took z in (record { value = took.value; reads = ended; ranged = w.ranged; short = w.short; ring = g }, w);
+    })
+      where
+        verdict : (room : ℕ) (x y : Bool) → in_range took.value ≡ x → too_many_terms took.value ≡ y → (first ((NUMBER, not x) ∷ (TERMS, y) ∷ []) ≡ ACCEPTED → ⊥)
+            → spell_read k room (got took.value []) ≡ refuse (first ((NUMBER, not x) ∷ (TERMS, y) ∷ []))
+        verdict room false y a b z = request_number k room took.value (ap (λ (x : Bool). is_ring (modulo k) && x) a ∙ and-false (is_ring (modulo k)))
+        verdict room true true a b z = request_terms k room took.value (and_both (is_ring (modulo k)) (in_range took.value) g a) b
+        verdict room true false a b z = absurd (z refl)
 
 -- ---- an accepted field
 pub accepted_fitted : (field : Bytes) (k room : ℕ) (a : Accepts field k) → spell_read k room (whole_field field) ≡ fitted (spell k (reduced k a.value)) room

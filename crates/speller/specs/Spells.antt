@@ -1,16 +1,26 @@
 -- What the spelling writer leaves, by the paper's definitions.
-use Rattle.std.specs.Prelude.{◌≡◌, true, false, cond, List, [], ℕ, ltb, length}
+use Rattle.std.specs.Prelude.{◌≡◌, true, false, cond, List, [], ℕ, ltb, length, Result, Ok, Err}
 use Rattle.limits.specs.Verdicts.{ACCEPTED, FULL}
+use Rattle.limits.specs.Refusals.{outcome}
+use Rattle.limits.specs.declared.refusal.Refusal.{Refusal}
 use Rattle.paper.specs.Grammar.{Bytes, got, polynomial}
 use Rattle.paper.specs.Statement.{Written, modulo, is_ring, in_range, too_many_terms}
 use Rattle.paper.specs.Spelling.{Spelled, refuse, spell_read, whole_field, spell_field, output_after, scratch_after}
 use Rattle.written.specs.Worded.{Holds}
-use Rattle.speller.specs.declared.Spelled.{Spelled as Answer}
+
+-- how many bytes were written, or the refusal
+abbrev pub Answer : Type 0
+Answer = Result ℕ Refusal
+
+-- nothing is where refused
+abbrev pub written_of : Answer → ℕ
+written_of (Ok n) = n
+written_of (Err why) = 0
 
 -- the answer r with the output afterwards is what x says
 pub record Gives (x : Spelled) (out out' : Bytes) (r : Answer) : Type 0 where
-  pub verdict : r.verdict ≡ x.verdict
-  pub written : r.written ≡ length x.spelling
+  pub verdict : outcome r ≡ x.verdict
+  pub written : written_of r ≡ length x.spelling
   pub output : out' ≡ output_after x out
 
 -- the whole contract

@@ -36,13 +36,13 @@ module _ (indices starts counts pool : List ℕ) (n x place phase : ℕ) (z : ph
 
 -- ---- what `admit` says of the index x, whatever the pool holds
 abbrev pub AdmitIs : ℕ → State → ℕ → ℕ → Type 0
-AdmitIs place s x v = (starts counts pool : List ℕ) → v ≡ first (admit_rows place s.phase (stored (store_of_columns s.table.indices starts counts pool s.table.stored) x))
+AdmitIs place s x v = (pool : List ℕ) → v ≡ first (admit_rows place s.phase (stored (store_of s.table pool) x))
 
 -- where it accepts
 module _ (place : ℕ) (s : State) (x : ℕ) {v : ℕ} (a : AdmitIs place s x v) (z : v ≡ 0) where
   passed : (pool : List ℕ) → (not (eqb place s.phase) ≡ false) × (first ((TAKEN, stored (store_of s.table pool) x) ∷ []) ≡ 0)
   passed pool =
-      first_open ORDER (not (eqb place s.phase)) ((TAKEN, stored (store_of s.table pool) x) ∷ []) (omega arith) (sym (a s.table.starts s.table.counts pool) ∙ z)
+      first_open ORDER (not (eqb place s.phase)) ((TAKEN, stored (store_of s.table pool) x) ∷ []) (omega arith) (sym (a pool) ∙ z)
 
   pub admitted_phase : s.phase ≡ place
   admitted_phase = sym (eqb-true place s.phase (not-false (eqb place s.phase) (passed []).0))

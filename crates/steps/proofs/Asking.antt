@@ -1,56 +1,45 @@
--- What each step asks of an item that was read. Assumes nothing.
-use mathlib.Core.Path.{◌≡◌, sym, subst, ◌∙◌}
-use mathlib.Core.Bool.{Bool, true, false, ◌&&◌}
+-- What judging asks of an item that was read, and each step of what it says. Assumes nothing.
+use mathlib.Core.Path.{◌≡◌, sym, ap, subst, ◌∙◌}
+use mathlib.Core.Bool.{Bool, true, ◌&&◌}
 use mathlib.Core.List.{List, ◌++◌}
-use Prim.Native.Nat.{ℕ, ◌≤◌}
+use Prim.Native.Nat.{ℕ}
+use Rattle.std.specs.Prelude.{Result, Ok}
 use Rattle.ground.specs.Lists.{every}
 use Rattle.ground.proofs.Tests.{and_left, and_right}
-use Rattle.limits.specs.Limits.{text_bytes}
-use Rattle.limits.specs.Verdicts.{ACCEPTED}
-use Rattle.paper.specs.Grammar.{Bytes, got}
+use Rattle.limits.specs.Refusals.{outcome}
+use Rattle.limits.proofs.Refusals.{refuses}
+use Rattle.limits.specs.declared.refusal.Refusal.{Refusal}
+use Rattle.limits.specs.declared.refusal.Refusal.TheVariants.{LongLine, Form}
 use Rattle.paper.specs.Statement.{Written, Pair, modulo, Statement, on_ring, on_ext, new_index, named_indices, fields, is_ring, is_index, is_variable, in_range, numbers_in_range}
 use Rattle.paper.specs.Rules.{Store}
 use Rattle.paper.specs.Answer.{Item}
 use Rattle.written.specs.Worded.{Holds}
-use Rattle.table.specs.Table.{store_of}
 use Rattle.scratch.specs.Scratch.{stated_at}
 use Rattle.sums.specs.declared.Sum.{Sum}
 use Rattle.sums.specs.Sums.{Summed}
 use Rattle.steps.specs.declared.said.Said.{Said}
-use Rattle.steps.specs.declared.said.Said.TheVariants.{Ring, Input, Goal, Lin, Del, Ext, Refused}
-use Rattle.steps.specs.declared.said.ItemRead.{ItemRead}
+use Rattle.steps.specs.declared.said.Said.TheVariants.{Ring, Lin, Ext}
 use Rattle.steps.specs.declared.state.State.{State}
 use Rattle.steps.specs.Stepped.{Room}
-use Rattle.steps.specs.Items.{Means, Tells, long, stops, turns, passes, ItemIs}
+use Rattle.steps.specs.Items.{Means, Sayable, Tells, long, stops, turns, passes, ItemIs}
 use Rattle.steps.proofs.Calling.{room_kept}
 
--- ---- a statement was read, nothing that is written refuses it, and its numbers are in range
-pub record Spoken (k : ℕ) (store : Store) (i : Item) (words : List ℕ) (sum : Sum) (said : Said) : Type 0 where
-  pub short : i.long ≡ false
-  pub value : Statement
-  pub rest : Bytes
-  pub reads : i.reads ≡ got value rest
-  pub accepted : i.written ≡ ACCEPTED
-  pub ranged : numbers_in_range value ≡ true
-  pub means : Means k store words sum value said
+-- ---- an item that was read
+-- what was said is one
+pub said_one : {x y : Said} → ◌≡◌ {A = Result Said Refusal} (Ok x) (Ok y) → x ≡ y
+said_one e = cc
 
--- not a refusal
-abbrev pub NoRefusal : Said → Type 0
-NoRefusal (Ring j) = Unit
-NoRefusal (Input i n) = Unit
-NoRefusal (Goal n) = Unit
-NoRefusal (Lin i n) = Unit
-NoRefusal (Del i) = Unit
-NoRefusal (Ext i v n) = Unit
-NoRefusal (Refused why) = ⊥
+pub sayable : {k : ℕ} {store : Store} {i : Item} {words : List ℕ} {r : Result Said Refusal} → Tells k store i words r → Sayable k store words r
+sayable (long l q) = record { means = λ y e. absurd (refuses LongLine (ap outcome (sym q ∙ e))) }
+sayable (stops l t f q) = record { means = λ y e. absurd (refuses Form (ap outcome (sym q ∙ e))) }
+sayable (turns l st t f why q w) = record { means = λ y e. absurd (refuses why (ap outcome (sym q ∙ e))) }
+sayable {k} {store} {words = words} (passes l st t f a g said q m) = record { means = λ y e. (st, g, subst (Means k store words st) (said_one (sym q ∙ e)) m) }
 
-module _ {k : ℕ} {store : Store} {i : Item} {words : List ℕ} {sum : Sum} {said y : Said} where
-  pub spoken : Tells k store i words sum said → said ≡ y → NoRefusal y → Spoken k store i words sum y
-  spoken (long l q) e t = absurd (subst NoRefusal (sym e ∙ q) t)
-  spoken (stops l r f q) e t = absurd (subst NoRefusal (sym e ∙ q) t)
-  spoken (turns l st r f q d) e t = absurd (subst NoRefusal (sym e ∙ q) t)
-  spoken (passes l st r f a g m) e t = record { short = l; value = st; rest = r; reads = f; accepted = a; ranged = g; means = subst (Means k store words sum st) e m }
+pub ask_judge : {capacity k : ℕ} {store : Store} {item : Item} {s : State} {pool words words' : List ℕ} {r : Result Said Refusal} → ItemIs k store item words words' r
+    → Room capacity s pool words → Room capacity s pool words' × Sayable k store words' r
+ask_judge x room = (room_kept x.kept.same room, sayable x.tells)
 
+-- ---- what it says
 -- the numbers of the statement x that a step looks at
 ranges : {st x : Statement} → st ≡ x → numbers_in_range st ≡ true → (on_ring true is_ring x ≡ true) × (on_ext true (λ i v p. is_variable v) x ≡ true)
 unfolding numbers_in_range
@@ -62,28 +51,25 @@ ranges {st} {x} e h =
     let b : (r && v) ≡ true = and_left (r && v) n (and_left (r && v && n) f (subst (λ (st : Statement). numbers_in_range st ≡ true) e h)) in
     (and_left r v b, and_right r v b)
 
-module _ {capacity : ℕ} {item : Item} {s : State} {pool words words' : List ℕ} {read : ItemRead} (x : ItemIs s.ring (store_of s.table pool) item words words' read) where
-  pub ask_ring : {k : ℕ} → read.said ≡ Ring k → Room capacity s pool words → (is_ring (modulo k) ≡ true) × (s.lines ≤ text_bytes)
-  ask_ring e room = let a = spoken x.tells e tt in ((ranges a.means a.ranged).0, room.early)
+-- the polynomial that stands in the stated region
+abbrev pub Stands : ℕ → List ℕ → Type 0
+Stands n words = (p : Written) × Holds p n stated_at words
 
-  pub ask_input : {i n : ℕ} → read.said ≡ Input i n → Room capacity s pool words
-      → Room capacity s pool words' × ((p : Written) × Holds p n stated_at words')
-  ask_input e room = let h = (spoken x.tells e tt).means in (room_kept x.kept.same room, (h.0, h.2))
+module _ {k : ℕ} {store : Store} {words : List ℕ} {r : Result Said Refusal} (a : Sayable k store words r) where
+  pub ask_ring : {j : ℕ} → r ≡ Ok (Ring j) → is_ring (modulo j) ≡ true
+  ask_ring e = let b = a.means _ e in (ranges b.2 b.1).0
 
-  pub ask_goal : {n : ℕ} → read.said ≡ Goal n → Room capacity s pool words
-      → ((capacity : ℕ) × Room capacity s pool words') × ((p : Written) × Holds p n stated_at words')
-  ask_goal e room = let h = (spoken x.tells e tt).means in ((capacity, room_kept x.kept.same room), (h.0, h.2))
+  pub ask_ext : {i v n : ℕ} → r ≡ Ok (Ext i v n) → (is_variable v ≡ true) × Stands n words
+  ask_ext e =
+      let b = a.means _ e in
+      let h = b.2 in
+      ((ranges h.1 b.1).1, (h.0, h.2))
 
-  pub ask_lin : {i n : ℕ} → read.said ≡ Lin i n → Room capacity s pool words
-      → Room capacity s pool words' × ((p : Written) × Holds p n stated_at words') × ((qs : List Pair) × Summed s.ring (store_of s.table pool) qs words' read.sum)
-  ask_lin e room =
-      let m = (spoken x.tells e tt).means in
-      let h = m.2 in
-      (room_kept x.kept.same room, (h.0, h.2), (m.0, m.1))
-
-  pub ask_ext : {i v n : ℕ} → read.said ≡ Ext i v n → Room capacity s pool words
-      → Room capacity s pool words' × (is_variable v ≡ true) × ((p : Written) × Holds p n stated_at words')
-  ask_ext e room =
-      let a = spoken x.tells e tt in
-      let h = a.means in
-      (room_kept x.kept.same room, (ranges h.1 a.ranged).1, (h.0, h.2))
+-- what the step of a lin asks for, in the room of before it was read
+pub ask_lin : {capacity k : ℕ} {store : Store} {item : Item} {s : State} {pool words words' : List ℕ} {r : Result Said Refusal} → ItemIs k store item words words' r
+    → {i n : ℕ} {x : Result Sum Refusal} → r ≡ Ok (Lin i n x) → Room capacity s pool words
+    → Room capacity s pool words' × Stands n words' × ((qs : List Pair) × Summed k store qs words' x)
+ask_lin y e room =
+    let a = ask_judge y room in
+    let h = ((a.1).means _ e).2 in
+    (a.0, (h.2.0, h.2.2), (h.0, h.1))

@@ -8,9 +8,9 @@ use Rattle.limits.specs.Limits.{least_scratch}
 use Rattle.terms.specs.Terms.{decode}
 use Rattle.paper.specs.Statement.{modulo}
 use Rattle.words.specs.Words.{number_of}
-use Rattle.table.specs.Table.{store_of}
+use Rattle.table.specs.Table.{store_of, PoolHolds}
+use Rattle.table.proofs.Laws.{fitting_holds}
 use Rattle.scratch.specs.Scratch.{goal_at}
-use Rattle.sums.specs.Sums.{PoolHolds}
 use Rattle.steps.specs.declared.state.State.{State}
 use Rattle.steps.specs.State.{state_of, Ready}
 use Rattle.steps.specs.Stepped.{Room}
@@ -18,9 +18,7 @@ use Rattle.steps.specs.Stepped.{Room}
 -- what reading an item asks for
 pub ready_reads : {capacity : ℕ} {s : State} {pool scratch : List ℕ} → Ready capacity s pool scratch
     → PoolHolds s.table.starts s.table.counts s.table.stored pool × (0 < s.table.stored → (1 ≤ s.ring) × (s.ring ≤ 64)) × (least_scratch ≤ length scratch)
-ready_reads {s = s} r =
-    let f = r.fitting in
-    ((s.table.used, f.packed, omega (arith, f.room, f.words), omega (arith, f.room, f.most)), (λ h. r.ringed (r.opened h)), r.room)
+ready_reads {capacity} {s} {pool} r = (fitting_holds s.table pool capacity r.fitting, (λ h. r.ringed (r.opened h)), r.room)
 
 -- of another scratch
 pub room_kept : {capacity : ℕ} {s : State} {pool scratch scratch' : List ℕ} → length scratch' ≡ length scratch → Room capacity s pool scratch → Room capacity s pool scratch'

@@ -4,14 +4,19 @@ use mathlib.Core.Bool.{Bool, true, false, not}
 use mathlib.Core.List.{List, [], ◌∷◌}
 use Prim.Native.Nat.{ℕ, ◌*◌, ◌^◌, ◌≤◌, ◌<◌}
 use native.Mathlib.Omega.{arith}
+use Rattle.std.specs.Prelude.{Result, Ok, Err}
 use lib.Bits.{bit_or}
 use lib.Dec.{ltb}
-use lib.ListN.{length, drop, replicate}
+use lib.ListN.{length, drop}
 use borrow.Author.Tests.{lt-ltb, le-ltb}
 use Rattle.ground.proofs.Lists.{drop_more}
 use Rattle.words.specs.Parts.{Within}
-use Rattle.limits.specs.Limits.{greatest_ring, set_words, line_products}
+use Rattle.limits.specs.Limits.{greatest_ring, line_products}
 use Rattle.limits.specs.Verdicts.{SEEN, PRODUCTS, MISMATCH, NOTBIT}
+use Rattle.limits.specs.Refusals as refusals
+use Rattle.limits.specs.declared.refusal.Refusal.{Refusal}
+use Rattle.limits.specs.declared.refusal.Refusal.TheVariants.{Seen, Products, Mismatch, NotBit}
+use Rattle.limits.proofs.Refusals.{refuses}
 use Rattle.algebra.specs.Polynomial.{Poly, has, equal, reduce, product, extension}
 use Rattle.algebra.proofs.Unions.{or_assoc}
 use Rattle.words.specs.Words.{number_of}
@@ -24,42 +29,43 @@ use Rattle.scratch.specs.Scratch.{stated_at, factor_at, goal_at, RunAt, ReducedA
 use Rattle.scratch.specs.declared.Reduced.{Reduced}
 use Rattle.sums.specs.declared.Sum.{Sum}
 use Rattle.sums.specs.Rows.{Rows, or_else}
-use Rattle.sums.specs.Sums.{factors_of, products_of, pair_rows, Summed}
+use Rattle.sums.specs.Sums.{factors_of, products_of, pair_rows, SumOf, Summed}
 use Rattle.sums.proofs.Rows.{else_stop, first_append}
 use Rattle.steps.specs.declared.check.Candidate.{Candidate}
-use Rattle.steps.specs.Parts.{lin_rows, ext_rows, CandidateIs}
+use Rattle.steps.specs.Parts.{lin_rows, ext_rows, MadeIs, CandidateIs}
 
-refused : {rows : Rows} {q : Poly} {made shown : ℕ} {s r : List ℕ} (why : ℕ) → (why ≡ 0 → ⊥) → why ≡ first rows → drop goal_at r ≡ drop goal_at s → length r ≡ length s
-    → {c : Candidate} → c ≡ record { verdict = why; terms = 0; products = 0; seen = replicate set_words 0 } → CandidateIs rows q made shown s r c
-refused {rows} {q} {made} {shown} {s} {r} why l e g h u = subst (CandidateIs rows q made shown s r) (sym u) (record {
-  verdict = e;
-  run = λ z. absurd (l z);
-  few = λ z. absurd (l z);
-  count = λ z. absurd (l z);
-  most = λ z. absurd (l z);
-  seen = λ z. absurd (l z);
+-- ---- refused, or made
+refused : {rows : Rows} {q : Poly} {made shown : ℕ} {s r : List ℕ} {c : Result Candidate Refusal} (why : Refusal) → c ≡ Err why → refusals.number_of why ≡ first rows
+    → drop goal_at r ≡ drop goal_at s → length r ≡ length s → CandidateIs rows q made shown s r c
+refused why h e g l = record {
+  verdict = ap refusals.outcome h ∙ e;
+  makes = λ m z. absurd (refuses why (ap refusals.outcome (sym h ∙ z)));
   goal = g;
-  same = h;
-})
+  same = l;
+}
+
+candidate_one : {m n : Candidate} → ◌≡◌ {A = Result Candidate Refusal} (Ok m) (Ok n) → m ≡ n
+candidate_one e = cc
+
+makes : {rows : Rows} {q : Poly} {made shown : ℕ} {s r : List ℕ} {m : Candidate} → 0 ≡ first rows → MadeIs q made shown r m
+    → drop goal_at r ≡ drop goal_at s → length r ≡ length s → CandidateIs rows q made shown s r (Ok m)
+makes {q = q} {made} {shown} {r = r} e d g l = record { verdict = e; makes = λ n z. subst (MadeIs q made shown r) (candidate_one z) d; goal = g; same = l }
 
 -- ---- in
 pub input_candidate : {k : ℕ} {p : Written} {f : Reduced} {s x : List ℕ} (seen all : List ℕ) → ReducedAt k p stated_at s x f → number_of all ≡ bit_or (number_of f.shown) (number_of seen)
-    → CandidateIs [] (reduced k p) 0 (bit_or (shows k p) (number_of seen)) s x (record { verdict = 0; terms = f.terms; products = 0; seen = all })
+    → CandidateIs [] (reduced k p) 0 (bit_or (shows k p) (number_of seen)) s x (Ok (record { terms = f.terms; products = 0; seen = all }))
 unfolding first
-input_candidate {s = s} {x} seen all d u = record {
-  verdict = refl;
-  run = λ _. d.at.run;
-  few = λ _. d.at.few;
-  count = λ _. refl;
-  most = λ _. omega arith;
-  seen = λ _. u ∙ ap (λ (m : ℕ). bit_or m (number_of seen)) d.shown;
-  goal = drop_more factor_at goal_at s x (omega arith) d.at.within.after;
-  same = d.at.within.same;
-}
+input_candidate {s = s} {x} seen all d u = makes refl (record {
+  run = d.at.run;
+  few = d.at.few;
+  count = refl;
+  most = omega arith;
+  seen = u ∙ ap (λ (m : ℕ). bit_or m (number_of seen)) d.shown;
+}) (drop_more factor_at goal_at s x (omega arith) d.at.within.after) d.at.within.same
 
 -- ---- ext
 module _ (k v : ℕ) (seen : List ℕ) {p : Written} {f : Reduced} {s x : List ℕ} (d : ReducedAt k p stated_at s x f) where
-  abbrev Extending : List ℕ → Candidate → Type 0
+  abbrev Extending : List ℕ → Result Candidate Refusal → Type 0
   Extending r c =
       CandidateIs (ext_rows k (number_of seen) v p) (extension k v (reduced k p)) (length (reduced k p) * length (reduced k p)) (bit_or (bit_or (2 ^ v) (shows k p)) (number_of seen)) s r c
 
@@ -84,15 +90,15 @@ module _ (k v : ℕ) (seen : List ℕ) {p : Written} {f : Reduced} {s x : List �
     clashes : has (bit_or (shows k p) (number_of seen)) v ≡ t
     clashes = sym (e ∙ ap (λ (m : ℕ). has m v) shown_too)
 
-    pub extends_seen : t ≡ true → {c : Candidate} → c ≡ record { verdict = SEEN; terms = 0; products = 0; seen = replicate set_words 0 } → Extending x c
+    pub extends_seen : t ≡ true → Extending x (Err Seen)
     unfolding first
-    extends_seen h = refused SEEN (λ z. omega (arith, z)) (by_tests (clashes ∙ h) refl refl) goal_kept d.at.within.same
+    extends_seen h = refused Seen refl (by_tests (clashes ∙ h) refl refl) goal_kept d.at.within.same
 
     module _ (h : t ≡ false) where
-      pub extends_many : line_products < f.terms * f.terms → {c : Candidate} → c ≡ record { verdict = PRODUCTS; terms = 0; products = 0; seen = replicate set_words 0 } → Extending x c
+      pub extends_many : line_products < f.terms * f.terms → Extending x (Err Products)
       unfolding first
       extends_many l =
-          refused PRODUCTS (λ z. omega (arith, z)) (by_tests (clashes ∙ h) (ap (λ (m : ℕ). ltb line_products (m * m)) long ∙ lt-ltb line_products (f.terms * f.terms) l) refl)
+          refused Products refl (by_tests (clashes ∙ h) (ap (λ (m : ℕ). ltb line_products (m * m)) long ∙ lt-ltb line_products (f.terms * f.terms) l) refl)
           goal_kept d.at.within.same
 
       module _ (few : f.terms * f.terms ≤ line_products) {b : Bool} (y : List ℕ) (w : Within 0 stated_at x y)
@@ -106,65 +112,64 @@ module _ (k v : ℕ) (seen : List ℕ) {p : Written} {f : Reduced} {s x : List �
         goal_too : drop goal_at y ≡ drop goal_at s
         goal_too = drop_more stated_at goal_at x y (omega arith) w.after ∙ goal_kept
 
-        pub extends_no_bit : b ≡ false → {c : Candidate} → c ≡ record { verdict = NOTBIT; terms = 0; products = 0; seen = replicate set_words 0 } → Extending y c
+        pub extends_no_bit : b ≡ false → Extending y (Err NotBit)
         unfolding first
-        extends_no_bit l = refused NOTBIT (λ z. omega (arith, z)) (by_tests (clashes ∙ h) counted (bit ∙ l)) goal_too (w.same ∙ d.at.within.same)
+        extends_no_bit l = refused NotBit refl (by_tests (clashes ∙ h) counted (bit ∙ l)) goal_too (w.same ∙ d.at.within.same)
 
         pub extends_all : b ≡ true → (r more : List ℕ) (m : ℕ) → RunAt stated_at (extension k v (decode f.terms (drop stated_at y))) y r m → number_of more ≡ bit_or (2 ^ v) (number_of all)
-            → Extending r (record { verdict = 0; terms = m; products = f.terms * f.terms; seen = more })
+            → Extending r (Ok (record { terms = m; products = f.terms * f.terms; seen = more }))
         unfolding first
-        extends_all l r more m i o = record {
-          verdict = by_tests (clashes ∙ h) counted (bit ∙ l);
-          run = λ _. i.run ∙ ap (extension k v) (decode_above f.terms stated_at 0 stated_at x y w (omega arith) ∙ d.at.run);
-          few = λ _. i.few;
-          count = λ _. ap (λ (m : ℕ). m * m) (sym long);
-          most = λ _. few;
-          seen = λ _. o ∙ ap (bit_or (2 ^ v)) shown_too ∙ sym (or_assoc (2 ^ v) (shows k p) (number_of seen));
-          goal = drop_more factor_at goal_at y r (omega arith) i.within.after ∙ goal_too;
-          same = i.within.same ∙ w.same ∙ d.at.within.same;
-        }
+        extends_all l r more m i o = makes (by_tests (clashes ∙ h) counted (bit ∙ l)) (record {
+          run = i.run ∙ ap (extension k v) (decode_above f.terms stated_at 0 stated_at x y w (omega arith) ∙ d.at.run);
+          few = i.few;
+          count = ap (λ (m : ℕ). m * m) (sym long);
+          most = few;
+          seen = o ∙ ap (bit_or (2 ^ v)) shown_too ∙ sym (or_assoc (2 ^ v) (shows k p) (number_of seen));
+        }) (drop_more factor_at goal_at y r (omega arith) i.within.after ∙ goal_too) (i.within.same ∙ w.same ∙ d.at.within.same)
 
 -- ---- lin
-module _ {k : ℕ} {store : Store} {qs : List Pair} (seen : List ℕ) (p : Written) {s : List ℕ} {u : Sum} (a : Summed k store qs s u) where
-  abbrev Adding : List ℕ → Candidate → Type 0
+module _ {k : ℕ} {store : Store} {qs : List Pair} (seen : List ℕ) (p : Written) {s : List ℕ} {u : Result Sum Refusal} (a : Summed k store qs s u) where
+  abbrev Adding : List ℕ → Result Candidate Refusal → Type 0
   Adding r c =
       CandidateIs (lin_rows k store p qs) (reduced k p) (products_of k (find store) qs) (bit_or (bit_or (shows k p) (shows_all k (factors_of qs))) (number_of seen)) s r c
 
   abbrev mismatch : Rows
   mismatch = (MISMATCH, not (equal (reduced k p) (reduce k (combination k (find store) qs)))) ∷ []
 
-  by_sum : first (lin_rows k store p qs) ≡ or_else u.verdict (first mismatch)
+  by_sum : first (lin_rows k store p qs) ≡ or_else (refusals.outcome u) (first mismatch)
   by_sum = first_append (pair_rows k store qs) mismatch (omega arith, (omega arith, tt)) ∙ ap (λ (v : ℕ). or_else v (first mismatch)) (sym a.verdict)
 
-  pub sum_refused : (u.verdict ≡ 0 → ⊥) → {c : Candidate} → c ≡ record { verdict = u.verdict; terms = 0; products = 0; seen = replicate set_words 0 } → Adding s c
-  sum_refused l = refused u.verdict l (sym (by_sum ∙ else_stop u.verdict (first mismatch) l)) refl refl
+  pub sum_refused : {why : Refusal} {c : Result Candidate Refusal} → u ≡ Err why → c ≡ Err why → Adding s c
+  sum_refused {why} e h =
+      let v : refusals.outcome u ≡ refusals.number_of why = ap refusals.outcome e in
+      refused why h (sym (by_sum ∙ else_stop (refusals.outcome u) (first mismatch) (λ z. refuses why (sym v ∙ z)) ∙ v)) refl refl
 
-  module _ (o : u.verdict ≡ 0) (kk : k ≤ greatest_ring) {x y : List ℕ} {f : Reduced} (d : ReducedAt k p stated_at s x f) {b : Bool} (w : Within 0 stated_at x y)
-      (e : b ≡ equal (decode f.terms (drop stated_at x)) (reduce k (decode u.terms x))) where
+  module _ {m : Sum} (o : u ≡ Ok m) (kk : k ≤ greatest_ring) {x y : List ℕ} {f : Reduced} (d : ReducedAt k p stated_at s x f) {b : Bool} (w : Within 0 stated_at x y)
+      (e : b ≡ equal (decode f.terms (drop stated_at x)) (reduce k (decode m.terms x))) where
+    sum : SumOf k store qs s m
+    sum = a.some m o
+
     same_sum : equal (reduced k p) (reduce k (combination k (find store) qs)) ≡ b
-    same_sum = sym (e ∙ ap₂ equal d.at.run (ap (reduce k) (decode_below u.terms stated_at factor_at s x d.at.within (omega (arith, a.most o)) ∙ a.run o)
+    same_sum = sym (e ∙ ap₂ equal d.at.run (ap (reduce k) (decode_below m.terms stated_at factor_at s x d.at.within (omega (arith, sum.most)) ∙ sum.run)
         ∙ reduce_rounded k kk (combination k (find store) qs)))
 
     by_match : (t : Bool) → b ≡ t → first ((MISMATCH, not t) ∷ []) ≡ first (lin_rows k store p qs)
-    by_match t h = sym (by_sum ∙ ap (λ (v : ℕ). or_else v (first mismatch)) o ∙ ap (λ (t : Bool). first ((MISMATCH, not t) ∷ [])) (same_sum ∙ h))
+    by_match t h = sym (by_sum ∙ ap (λ (u : Result Sum Refusal). or_else (refusals.outcome u) (first mismatch)) o ∙ ap (λ (t : Bool). first ((MISMATCH, not t) ∷ [])) (same_sum ∙ h))
 
     goal_same : drop goal_at y ≡ drop goal_at s
     goal_same = drop_more stated_at goal_at x y (omega arith) w.after ∙ drop_more factor_at goal_at s x (omega arith) d.at.within.after
 
-    pub sum_differs : b ≡ false → {c : Candidate} → c ≡ record { verdict = MISMATCH; terms = 0; products = 0; seen = replicate set_words 0 } → Adding y c
+    pub sum_differs : b ≡ false → Adding y (Err Mismatch)
     unfolding first
-    sum_differs z = refused MISMATCH (λ z. omega (arith, z)) (by_match false z) goal_same (w.same ∙ d.at.within.same)
+    sum_differs z = refused Mismatch refl (by_match false z) goal_same (w.same ∙ d.at.within.same)
 
-    pub sum_matches : b ≡ true → (all more : List ℕ) → number_of all ≡ bit_or (number_of f.shown) (number_of u.seen) → number_of more ≡ bit_or (number_of all) (number_of seen)
-        → Adding y (record { verdict = 0; terms = f.terms; products = u.terms; seen = more })
+    pub sum_matches : b ≡ true → (all more : List ℕ) → number_of all ≡ bit_or (number_of f.shown) (number_of m.seen) → number_of more ≡ bit_or (number_of all) (number_of seen)
+        → Adding y (Ok (record { terms = f.terms; products = m.terms; seen = more }))
     unfolding first
-    sum_matches z all more g h = record {
-      verdict = by_match true z;
-      run = λ _. decode_above f.terms stated_at 0 stated_at x y w (omega arith) ∙ d.at.run;
-      few = λ _. d.at.few;
-      count = λ _. a.count o;
-      most = λ _. a.most o;
-      seen = λ _. h ∙ ap (λ (m : ℕ). bit_or m (number_of seen)) (g ∙ ap₂ bit_or d.shown (a.seen o));
-      goal = goal_same;
-      same = w.same ∙ d.at.within.same;
-    }
+    sum_matches z all more g h = makes (by_match true z) (record {
+      run = decode_above f.terms stated_at 0 stated_at x y w (omega arith) ∙ d.at.run;
+      few = d.at.few;
+      count = sum.count;
+      most = sum.most;
+      seen = h ∙ ap (λ (m : ℕ). bit_or m (number_of seen)) (g ∙ ap₂ bit_or d.shown sum.seen);
+    }) goal_same (w.same ∙ d.at.within.same)

@@ -1,17 +1,18 @@
--- What `ItemIs`, the contract of a reader of items, decides: what is said; of a statement the words of its polynomial, and of a lin as much of the sum as
--- that of `add_factor` does; and that all from the goal's region on is kept. The other words of the regions before it, and the sum of
--- what is no lin, are left open. Assumes nothing.
+-- What `ItemIs`, the contract of a reader of items, decides: what is said, with the sum of a lin; of a statement the words of its polynomial, and of a lin
+-- those of the products as `add_factor` does; and that all from the goal's region on is kept. The other words of the regions before it are left open.
+-- Assumes nothing.
 use mathlib.Core.Path.{◌≡◌, refl, sym, ap, subst, ◌∙◌}
-use mathlib.Core.Bool.{Bool, false, cond}
+use mathlib.Core.Bool.{Bool, cond}
 use mathlib.Core.List.{List, []}
 use Prim.Native.Nat.{ℕ, ◌*◌}
-use native.Mathlib.Omega.{arith}
-use lib.Dec.{eqb}
 use lib.ListN.{length, drop}
-use borrow.Author.Tests.{eq-eqb, ne_eqb}
-use Rattle.ground.proofs.Tests.{cond_yes, cond_no}
+use Rattle.std.specs.Prelude.{Result, Ok, Err}
 use Rattle.limits.specs.Limits.{term_words}
 use Rattle.limits.specs.Verdicts.{ACCEPTED, LONGLINE, FORM}
+use Rattle.limits.specs.Refusals.{number_of}
+use Rattle.limits.specs.declared.refusal.Refusal.{Refusal}
+use Rattle.limits.specs.declared.refusal.Refusal.TheVariants.{LongLine, Form}
+use Rattle.limits.proofs.Refusals.{refuses, one_refusal}
 use Rattle.words.specs.Parts.{part, Within}
 use Rattle.words.proofs.Laws.{Words}
 use Rattle.terms.specs.Terms.{decode}
@@ -24,21 +25,20 @@ use Rattle.written.specs.Worded.{worded}
 use Rattle.scratch.specs.Scratch.{stated_at, goal_at}
 use Rattle.sums.specs.declared.Sum.{Sum}
 use Rattle.sums.specs.Sums.{Summed}
-use Rattle.sums.proofs.Decided.{SameSum, sums_alike}
+use Rattle.sums.proofs.Decided.{SameSum, Wordly, sums_alike}
 use Rattle.steps.specs.declared.said.Said.{Said}
-use Rattle.steps.specs.declared.said.Said.TheVariants.{Ring, Input, Goal, Lin, Del, Ext, Refused}
-use Rattle.steps.specs.declared.said.ItemRead.{ItemRead}
+use Rattle.steps.specs.declared.said.Said.TheVariants.{Ring, Input, Goal, Lin, Del, Ext}
 use Rattle.steps.specs.Items.{Means, Tells, long, stops, turns, passes, ItemIs}
-use Rattle.steps.proofs.Decided.{IsSet}
+use Rattle.steps.proofs.Asking.{said_one}
 
--- ---- a statement: what is said of it, its polynomial, and its pairs
-abbrev said_of : Statement → Said
-said_of (ring r) = Ring (bits r)
-said_of (input i p) = Input i (length p)
-said_of (goal p) = Goal (length p)
-said_of (lin i p qs) = Lin i (length p)
-said_of (del i) = Del i
-said_of (ext i v p) = Ext i v (length p)
+-- ---- a statement: what is said of it with the sum of its pairs, its polynomial, and its pairs
+abbrev said_of : Statement → Result Sum Refusal → Said
+said_of (ring r) a = Ring (bits r)
+said_of (input i p) a = Input i (length p)
+said_of (goal p) a = Goal (length p)
+said_of (lin i p qs) a = Lin i (length p) a
+said_of (del i) a = Del i
+said_of (ext i v p) a = Ext i v (length p)
 
 abbrev polynomial_of : Statement → Written
 polynomial_of (ring r) = []
@@ -56,96 +56,125 @@ abbrev pub terms_in : Said → ℕ
 terms_in (Ring k) = 0
 terms_in (Input i n) = n
 terms_in (Goal n) = n
-terms_in (Lin i n) = n
+terms_in (Lin i n a) = n
 terms_in (Del i) = 0
 terms_in (Ext i v n) = n
-terms_in (Refused why) = 0
 
-module _ (k : ℕ) (store : Store) (words : List ℕ) (sum : Sum) (st : Statement) where
-  means_said : (said : Said) → Means k store words sum st said → said ≡ said_of st
-  means_said (Ring j) h = ap said_of (sym h)
-  means_said (Input i n) h = ap (λ (m : ℕ). Input i m) h.2.terms ∙ ap said_of (sym h.1)
-  means_said (Goal n) h = ap (λ (m : ℕ). Goal m) h.2.terms ∙ ap said_of (sym h.1)
-  means_said (Lin i n) h = ap (λ (m : ℕ). Lin i m) h.2.2.terms ∙ ap said_of (sym h.2.1)
-  means_said (Del i) h = ap said_of (sym h)
-  means_said (Ext i v n) h = ap (λ (m : ℕ). Ext i v m) h.2.terms ∙ ap said_of (sym h.1)
-  means_said (Refused why) h = absurd h
+-- the sum that is said
+abbrev sum_in : Said → Result Sum Refusal
+sum_in (Ring k) = Err Form
+sum_in (Input i n) = Err Form
+sum_in (Goal n) = Err Form
+sum_in (Lin i n a) = a
+sum_in (Del i) = Err Form
+sum_in (Ext i v n) = Err Form
 
-  means_run : (said : Said) → Means k store words sum st said → decode (terms_in said) (drop stated_at words) ≡ worded (polynomial_of st)
+module _ (k : ℕ) (store : Store) (words : List ℕ) (st : Statement) where
+  means_said : (said : Said) → Means k store words st said → said ≡ said_of st (sum_in said)
+  means_said (Ring j) h = ap (λ (x : Statement). said_of x (Err Form)) (sym h)
+  means_said (Input i n) h = ap (λ (m : ℕ). Input i m) h.2.terms ∙ ap (λ (x : Statement). said_of x (Err Form)) (sym h.1)
+  means_said (Goal n) h = ap (λ (m : ℕ). Goal m) h.2.terms ∙ ap (λ (x : Statement). said_of x (Err Form)) (sym h.1)
+  means_said (Lin i n a) h = ap (λ (m : ℕ). Lin i m a) h.2.2.terms ∙ ap (λ (x : Statement). said_of x a) (sym h.2.1)
+  means_said (Del i) h = ap (λ (x : Statement). said_of x (Err Form)) (sym h)
+  means_said (Ext i v n) h = ap (λ (m : ℕ). Ext i v m) h.2.terms ∙ ap (λ (x : Statement). said_of x (Err Form)) (sym h.1)
+
+  means_run : (said : Said) → Means k store words st said → decode (terms_in said) (drop stated_at words) ≡ worded (polynomial_of st)
   unfolding decode worded
   means_run (Ring j) h = ap (λ (x : Statement). worded (polynomial_of x)) (sym h)
   means_run (Input i n) h = h.2.run ∙ ap (λ (x : Statement). worded (polynomial_of x)) (sym h.1)
   means_run (Goal n) h = h.2.run ∙ ap (λ (x : Statement). worded (polynomial_of x)) (sym h.1)
-  means_run (Lin i n) h = h.2.2.run ∙ ap (λ (x : Statement). worded (polynomial_of x)) (sym h.2.1)
+  means_run (Lin i n a) h = h.2.2.run ∙ ap (λ (x : Statement). worded (polynomial_of x)) (sym h.2.1)
   means_run (Del i) h = ap (λ (x : Statement). worded (polynomial_of x)) (sym h)
   means_run (Ext i v n) h = h.2.run ∙ ap (λ (x : Statement). worded (polynomial_of x)) (sym h.1)
-  means_run (Refused why) h = absurd h
 
-  means_sum : {said : Said} {i n : ℕ} → said ≡ Lin i n → Means k store words sum st said → Summed k store (pairs_of st) words sum
-  means_sum e m = let h = subst (Means k store words sum st) e m in subst (λ (qs : List Pair). Summed k store qs words sum) (ap pairs_of (sym h.2.1)) h.1
+  means_sum : {said : Said} {i n : ℕ} {a : Result Sum Refusal} → said ≡ Lin i n a → Means k store words st said → Summed k store (pairs_of st) words a
+  means_sum {a = a} e m = let h = subst (Means k store words st) e m in subst (λ (qs : List Pair). Summed k store qs words a) (ap pairs_of (sym h.2.1)) h.1
 
--- ---- an item: what is said of it
-abbrev read_says : ℕ → Read Statement → Said
-read_says written (got st r) = cond (eqb written ACCEPTED) (said_of st) (Refused written)
-read_says written (stuck r) = Refused FORM
+-- ---- an item: how reading it is refused, or the statement that is said
+abbrev read_refusal : ℕ → Read Statement → ℕ
+read_refusal written (got st r) = written
+read_refusal written (stuck r) = FORM
 
-abbrev says : Item → Said
-says i = cond i.long (Refused LONGLINE) (read_says i.written i.reads)
+abbrev refusal_of : Item → ℕ
+refusal_of i = cond i.long LONGLINE (read_refusal i.written i.reads)
 
-module _ {k : ℕ} {store : Store} {i : Item} {words : List ℕ} {sum : Sum} {said : Said} where
-  tells_said : Tells k store i words sum said → said ≡ says i
-  tells_said t = go t
-    where
-      short : i.long ≡ false → {x : Read Statement} → i.reads ≡ x → read_says i.written x ≡ says i
-      short e f = ap (read_says i.written) (sym f) ∙ ap (λ (b : Bool). cond b (Refused LONGLINE) (read_says i.written i.reads)) (sym e)
+data Told (k : ℕ) (store : Store) (i : Item) (words : List ℕ) (r : Result Said Refusal) : Type 0 where
+  refusing : (why : Refusal) → r ≡ Err why → number_of why ≡ refusal_of i → Told k store i words r
+  saying : (st : Statement) (t : Bytes) (said : Said) → i.reads ≡ got st t → refusal_of i ≡ ACCEPTED → r ≡ Ok said → Means k store words st said → Told k store i words r
 
-      go : Tells k store i words sum said → said ≡ says i
-      go (long e q) = q ∙ ap (λ (b : Bool). cond b (Refused LONGLINE) (read_says i.written i.reads)) (sym e)
-      go (stops e r f q) = q ∙ short e f
-      go (turns e st r f q n) = q ∙ sym (cond_no (eqb i.written ACCEPTED) (said_of st) (Refused i.written) (ne_eqb i.written ACCEPTED n)) ∙ short e f
-      go (passes e st r f a g m) =
-          means_said k store words sum st said m
-          ∙ sym (cond_yes (eqb i.written ACCEPTED) (said_of st) (Refused i.written) (eq-eqb i.written ACCEPTED a)) ∙ short e f
-
-  tells_means : ((why : ℕ) → said ≡ Refused why → ⊥) → Tells k store i words sum said → (st : Statement) × (r : Bytes) × (i.reads ≡ got st r) × Means k store words sum st said
-  tells_means n (long e q) = absurd (n LONGLINE q)
-  tells_means n (stops e r f q) = absurd (n FORM q)
-  tells_means n (turns e st r f q _) = absurd (n i.written q)
-  tells_means n (passes e st r f a g m) = (st, r, f, m)
+module _ {k : ℕ} {store : Store} {i : Item} {words : List ℕ} {r : Result Said Refusal} where
+  told : Tells k store i words r → Told k store i words r
+  told (long l q) = refusing LongLine q (ap (λ (b : Bool). cond b LONGLINE (read_refusal i.written i.reads)) (sym l))
+  told (stops l t f q) = refusing Form q (ap (read_refusal i.written) (sym f) ∙ ap (λ (b : Bool). cond b LONGLINE (read_refusal i.written i.reads)) (sym l))
+  told (turns l st t f why q h) = refusing why q (h ∙ ap (read_refusal i.written) (sym f) ∙ ap (λ (b : Bool). cond b LONGLINE (read_refusal i.written i.reads)) (sym l))
+  told (passes l st t f a g said q m) =
+      saying st t said f (ap (λ (b : Bool). cond b LONGLINE (read_refusal i.written i.reads)) l ∙ ap (read_refusal i.written) f ∙ a) q m
 
 -- ---- `read_line`
-pub record SameItem (r q : List ℕ) (x y : ItemRead) : Type 0 where
-  pub said : x.said ≡ y.said
-  pub stated : ((why : ℕ) → x.said ≡ Refused why → ⊥) → part stated_at (terms_in x.said * term_words) r ≡ part stated_at (terms_in x.said * term_words) q
-  pub sum : (i n : ℕ) → x.said ≡ Lin i n → SameSum r q x.sum y.sum
+-- the sum that is said has words
+abbrev pub SaysWords : Result Said Refusal → Type 0
+SaysWords x = (i n : ℕ) (a : Result Sum Refusal) → x ≡ Ok (Lin i n a) → Wordly a
+
+pub record SameItem (r q : List ℕ) (x y : Result Said Refusal) : Type 0 where
+  pub said : x ≡ y
+  pub stated : (said : Said) → x ≡ Ok said → part stated_at (terms_in said * term_words) r ≡ part stated_at (terms_in said * term_words) q
+  pub sum : (i n : ℕ) (a : Result Sum Refusal) → x ≡ Ok (Lin i n a) → SameSum r q a a
   pub kept : Within 0 goal_at q r
 
-pub items_alike : (k : ℕ) (store : Store) (i : Item) (s r q : List ℕ) (x y : ItemRead) → Words r → Words q → IsSet x.sum.seen → IsSet y.sum.seen
+not_both : {why : Refusal} {said : Said} → ◌≡◌ {A = Result Said Refusal} (Err why) (Ok said) → ⊥
+not_both e = cc
+
+-- one statement was said twice
+module _ (k : ℕ) (store : Store) (r q : List ℕ) (same : length r ≡ length q) (f : Words r) (g : Words q) where
+  sums_of : (st : Statement) (u v : Said) → ((i n : ℕ) (a : Result Sum Refusal) → u ≡ Lin i n a → Wordly a) → ((i n : ℕ) (a : Result Sum Refusal) → v ≡ Lin i n a → Wordly a)
+      → Means k store r st u → Means k store q st v → said_of st (sum_in u) ≡ said_of st (sum_in v)
+  sums_of (ring x) u v a b m n = refl
+  sums_of (input i p) u v a b m n = refl
+  sums_of (goal p) u v a b m n = refl
+  sums_of (lin i p qs) u v a b m n =
+      let e : u ≡ Lin i (length p) (sum_in u) = means_said k store r (lin i p qs) u m in
+      let h : v ≡ Lin i (length p) (sum_in v) = means_said k store q (lin i p qs) v n in
+      ap (λ (a : Result Sum Refusal). Lin i (length p) a)
+      (sums_alike k store qs r q (sum_in u) (sum_in v) same f g (a i (length p) (sum_in u) e) (b i (length p) (sum_in v) h) (means_sum k store r (lin i p qs) e m) (means_sum k store q (lin i p qs) h n)).sum
+  sums_of (del i) u v a b m n = refl
+  sums_of (ext i w p) u v a b m n = refl
+
+  one_said : (st : Statement) (u v : Said) → ((i n : ℕ) (a : Result Sum Refusal) → u ≡ Lin i n a → Wordly a) → ((i n : ℕ) (a : Result Sum Refusal) → v ≡ Lin i n a → Wordly a)
+      → Means k store r st u → Means k store q st v → u ≡ v
+  one_said st u v a b m n = means_said k store r st u m ∙ sums_of st u v a b m n ∙ sym (means_said k store q st v n)
+
+pub items_alike : (k : ℕ) (store : Store) (i : Item) (s r q : List ℕ) (x y : Result Said Refusal) → Words r → Words q → SaysWords x → SaysWords y
     → ItemIs k store i s r x → ItemIs k store i s q y → SameItem r q x y
-items_alike k store i s r q x y f g u w a b = record {
-  said = said;
-  stated = λ n.
-      let h = both n in
-      one_run_at stated_at (terms_in x.said) r q same f g
-      (means_run k store r x.sum h.0 x.said h.1 ∙ sym (means_run k store q y.sum h.0 y.said h.2)
-      ∙ ap (λ (z : Said). decode (terms_in z) (drop stated_at q)) (sym said));
-  sum = λ j n e.
-      let h = both (λ why z. absurd (let v : Refused why ≡ Lin j n = sym z ∙ e in let o : ◌≡◌ {A = ℕ} 0 1 = cc in omega arith)) in
-      sums_alike k store (pairs_of h.0) r q x.sum y.sum same f g u.1 w.1 u.0 w.0
-      (means_sum k store r x.sum h.0 e h.1) (means_sum k store q y.sum h.0 (sym said ∙ e) h.2);
-  kept = record { before = refl; after = a.kept.after ∙ sym b.kept.after; same = same };
-}
+items_alike k store i s r q x y f g u w a b = by (told a.tells) (told b.tells)
   where
     same : length r ≡ length q
     same = a.kept.same ∙ sym b.kept.same
 
-    said : x.said ≡ y.said
-    said = tells_said a.tells ∙ sym (tells_said b.tells)
+    kept : Within 0 goal_at q r
+    kept = record { before = refl; after = a.kept.after ∙ sym b.kept.after; same = same }
 
-    -- one statement is meant
-    both : ((why : ℕ) → x.said ≡ Refused why → ⊥) → (st : Statement) × Means k store r x.sum st x.said × Means k store q y.sum st y.said
-    both n =
-        let c = tells_means n a.tells in
-        let d = tells_means (λ why z. n why (said ∙ z)) b.tells in
-        let e : d.0 ≡ c.0 = (let v = c.2 in let o = d.2 in cc) in
-        (c.0, c.3, subst (λ (st : Statement). Means k store q y.sum st y.said) e d.3)
+    by : Told k store i r x → Told k store i q y → SameItem r q x y
+    by (refusing v h m) (refusing z l n) = record {
+      said = h ∙ ap (λ (w : Refusal). Err w) (one_refusal v z (m ∙ sym n)) ∙ sym l;
+      stated = λ said e. absurd (not_both (sym h ∙ e));
+      sum = λ j c d e. absurd (not_both (sym h ∙ e));
+      kept = kept;
+    }
+    by (refusing v h m) (saying st t said e n l o) = absurd (refuses v (m ∙ n))
+    by (saying st t said e n l o) (refusing v h m) = absurd (refuses v (m ∙ n))
+    by (saying st t v e z h m) (saying st' t' v' e' z' h' m') =
+        let o : st' ≡ st = (let c = e in let d = e' in cc) in
+        let n : Means k store q st v' = subst (λ (st : Statement). Means k store q st v') o m' in
+        let d : v ≡ v' = one_said k store r q same f g st v v' (λ i n a d. u i n a (h ∙ ap (λ (c : Said). Ok c) d)) (λ i n a d. w i n a (h' ∙ ap (λ (c : Said). Ok c) d)) m n in
+        let n' : Means k store q st v = subst (Means k store q st) (sym d) n in
+        record {
+          said = h ∙ ap (λ (c : Said). Ok c) d ∙ sym h';
+          stated = λ y c.
+              let l : v ≡ y = said_one (sym h ∙ c) in
+              subst (λ (y : Said). part stated_at (terms_in y * term_words) r ≡ part stated_at (terms_in y * term_words) q) l
+              (one_run_at stated_at (terms_in v) r q same f g (means_run k store r st v m ∙ sym (means_run k store q st v n')));
+          sum = λ j c y l.
+              let p : v ≡ Lin j c y = said_one (sym h ∙ l) in
+              sums_alike k store (pairs_of st) r q y y same f g (u j c y l) (u j c y l) (means_sum k store r st p m) (means_sum k store q st p n');
+          kept = kept;
+        }

@@ -1,13 +1,13 @@
 pub mod Rules
 pub mod After
-pub mod Stating
 pub mod Stepping
 pub mod Aiming
 pub mod Admitting
 pub mod Checking
+pub mod Stating
 pub mod Storing
-pub mod Decided
 pub mod Calling
 pub mod Asking
 pub mod Judging
+pub mod Decided
 pub mod ItemsDecided

@@ -7,8 +7,14 @@ use native.Mathlib.Omega.{arith}
 use lib.Dec.{eqb}
 use lib.ListN.{length, replicate}
 use borrow.Author.Tests.{eq-eqb, ne_eqb}
-use Rattle.limits.specs.Limits.{stored_polynomials, set_words}
+use Rattle.limits.specs.Limits.{set_words}
 use Rattle.limits.specs.Verdicts.{ORDER, MISSING}
+use Rattle.limits.specs.Refusals as refusals
+use Rattle.limits.specs.declared.refusal.Refusal.{Refusal}
+use Rattle.limits.specs.declared.refusal.Refusal.TheVariants.{Order, Missing}
+use Rattle.limits.proofs.Refusals.{refuses}
+use Rattle.std.specs.Prelude.{Result, Ok, Err, IsErrAnd, Option, Some, None}
+use Rattle.std.specs.Option.{ok_or}
 use Rattle.words.specs.Words.{number_of}
 use Rattle.terms.specs.Terms.{decode}
 use Rattle.paper.specs.Statement.{modulo, Statement, ring, del, is_ring}
@@ -18,11 +24,10 @@ use Rattle.paper.proofs.Store.{distinct_remove}
 use Rattle.table.specs.declared.Table.{Table}
 use Rattle.table.specs.Table.{store_of}
 use Rattle.table.specs.Columns as table
-use Rattle.table.specs.Columns.{Absent, FirstAt}
+use Rattle.table.specs.Columns.{Absent, FirstAt, Forgotten}
 use Rattle.table.proofs.Laws.{store_length, absent_stored, found_stored, fresh_fitting}
-use Rattle.table.proofs.Forgetting.{Forgotten, forgotten_fitting}
+use Rattle.table.proofs.Forgetting.{forgotten_fitting}
 use Rattle.steps.specs.declared.state.State.{State}
-use Rattle.steps.specs.declared.state.Step.{Step}
 use Rattle.steps.specs.State.{state_of, AtStart}
 use Rattle.steps.specs.Stepped.{Room, Stepped}
 use Rattle.steps.proofs.Rules.{first_ring, first_del}
@@ -56,29 +61,27 @@ at_start t f = record {
 }
 
 -- ---- a step
--- how long the columns are
-abbrev pub Long : Table → Type 0
-Long t = (length t.indices ≡ stored_polynomials) × (length t.starts ≡ stored_polynomials) × (length t.counts ≡ stored_polynomials)
+-- what a `?` hands on
+pub passed_on : {A : Type 0} {r : Result A Refusal} {why : Refusal} → IsErrAnd r (λ w. w ≡ why) → r ≡ Err why
+passed_on {r = Ok x} h = absurd h
+passed_on {r = Err w} h = ap Err h
 
-pub stepped_refused : {capacity : ℕ} {st : Statement} {s : State} {pool scratch : List ℕ} {r : Step} {scratch' : List ℕ} (v : ℕ) → (v ≡ 0 → ⊥)
-    → first (rules capacity (state_of s pool scratch) st) ≡ v → (r.verdict ≡ v) × (r.state ≡ s) → length scratch' ≡ length scratch
-    → Stepped capacity st s pool scratch r pool scratch'
-stepped_refused {r = r} v l e h n = record {
-  verdict = e ∙ sym h.0;
-  next = λ z. absurd (l (sym h.0 ∙ z));
-  ready = λ z. absurd (l (sym h.0 ∙ z));
-  lines = λ z. absurd (l (sym h.0 ∙ z));
-  back = λ z. h.1;
-  untouched = λ z. refl;
-  pool_length = refl;
-  scratch_length = n;
-}
-
--- a step that hands back this verdict and this state
-pub told : {capacity v : ℕ} {st : Statement} {s t : State} {pool scratch pool' scratch' : List ℕ} {r : Step} → (r.verdict ≡ v) × (r.state ≡ t)
-    → Stepped capacity st s pool scratch (record { verdict = v; state = t }) pool' scratch' → Stepped capacity st s pool scratch r pool' scratch'
-told {capacity} {st = st} {s} {pool = pool} {scratch} {pool'} {scratch'} q d =
-    subst (λ (x : Step). Stepped capacity st s pool scratch x pool' scratch') (λ i. record { verdict = sym q.0 i; state = sym q.1 i }) d
+-- a step that refuses
+pub stepped_refused : {capacity : ℕ} {st : Statement} {s : State} {pool scratch scratch' : List ℕ} {r : Result Unit Refusal} (why : Refusal) → r ≡ Err why
+    → first (rules capacity (state_of s pool scratch) st) ≡ refusals.number_of why → length scratch' ≡ length scratch
+    → Stepped capacity st s pool scratch r s pool scratch'
+stepped_refused {r = r} why h e n =
+    let v : refusals.outcome r ≡ refusals.number_of why = ap refusals.outcome h in
+    record {
+      verdict = e ∙ sym v;
+      next = λ z. absurd (refuses why (sym v ∙ z));
+      ready = λ z. absurd (refuses why (sym v ∙ z));
+      lines = λ z. absurd (refuses why (sym v ∙ z));
+      back = λ z. refl;
+      untouched = λ z. refl;
+      pool_length = refl;
+      scratch_length = n;
+    }
 
 -- ---- in its phase
 -- what the row of ORDER says, and those behind it
@@ -104,14 +107,14 @@ ringed s k = record {
 }
 
 module _ {capacity : ℕ} {s : State} {pool scratch : List ℕ} {k : ℕ} where
-  pub ring_misplaced : {r : Step} → (s.phase ≡ opening → ⊥) → (r.verdict ≡ ORDER) × (r.state ≡ s) → Stepped capacity (ring (modulo k)) s pool scratch r pool scratch
-  ring_misplaced n q = stepped_refused ORDER (λ z. omega (arith, z)) (first_ring capacity (state_of s pool scratch) (modulo k) ∙ order_refuses opening s.phase [] n) q refl
+  pub ring_misplaced : (s.phase ≡ opening → ⊥) → Stepped capacity (ring (modulo k)) s pool scratch (Err Order) s pool scratch
+  ring_misplaced n = stepped_refused Order refl (first_ring capacity (state_of s pool scratch) (modulo k) ∙ order_refuses opening s.phase [] n) refl
 
-  pub ring_stands : {r : Step} → is_ring (modulo k) ≡ true → Room capacity s pool scratch → s.phase ≡ opening → (r.verdict ≡ 0) × (r.state ≡ ringed s k) → Stepped capacity (ring (modulo k)) s pool scratch r pool scratch
+  pub ring_stands : is_ring (modulo k) ≡ true → Room capacity s pool scratch → s.phase ≡ opening → Stepped capacity (ring (modulo k)) s pool scratch (Ok tt) (ringed s k) pool scratch
   unfolding first
-  ring_stands h room z q =
+  ring_stands h room z =
       let o = room.ready in
-      told q (record {
+      record {
         verdict = first_ring capacity (state_of s pool scratch) (modulo k) ∙ order_passes opening s.phase [] z;
         next = λ _. sym (after_ring (state_of s pool scratch) (modulo k));
         ready = λ _. record {
@@ -128,9 +131,18 @@ module _ {capacity : ℕ} {s : State} {pool scratch : List ℕ} {k : ℕ} where
         untouched = λ _. refl;
         pool_length = refl;
         scratch_length = refl;
-      })
+      }
 
 -- ---- del
+-- what is looked for is found or not
+pub some_place : {o : Option ℕ} {r : Result ℕ Refusal} {j : ℕ} → r ≡ ok_or o Missing → r ≡ Ok j → o ≡ Some j
+some_place {o = None} e h = cc
+some_place {o = Some i} e h = cc
+
+pub no_place : {o : Option ℕ} {r : Result ℕ Refusal} {why : Refusal} → r ≡ ok_or o Missing → r ≡ Err why → (o ≡ None) × (why ≡ Missing)
+no_place {o = None} e h = (refl, cc)
+no_place {o = Some i} e h = cc
+
 abbrev shrunk : State → Table → State
 shrunk s t = record {
   phase = s.phase;
@@ -151,25 +163,23 @@ del_verdict capacity s pool scratch x z b e =
     ∙ ap (λ (b : Bool). first ((MISSING, not b) ∷ [])) e
 
 module _ {capacity : ℕ} {s : State} {pool scratch : List ℕ} {x : ℕ} where
-  pub del_misplaced : {r : Step} → (s.phase ≡ steps → ⊥) → (r.verdict ≡ ORDER) × (r.state ≡ s) → Stepped capacity (del x) s pool scratch r pool scratch
-  del_misplaced n q =
-      stepped_refused ORDER (λ z. omega (arith, z))
-      (first_del capacity (state_of s pool scratch) x ∙ order_refuses steps s.phase ((MISSING, not (stored (store_of s.table pool) x)) ∷ []) n) q refl
+  pub del_misplaced : (s.phase ≡ steps → ⊥) → Stepped capacity (del x) s pool scratch (Err Order) s pool scratch
+  del_misplaced n =
+      stepped_refused Order refl
+      (first_del capacity (state_of s pool scratch) x ∙ order_refuses steps s.phase ((MISSING, not (stored (store_of s.table pool) x)) ∷ []) n) refl
 
-  pub del_missing : {r : Step} → s.phase ≡ steps → Absent s.table.indices s.table.stored x → (r.verdict ≡ MISSING) × (r.state ≡ s)
-      → Stepped capacity (del x) s pool scratch r pool scratch
+  pub del_missing : {r : Result Unit Refusal} → s.phase ≡ steps → Absent s.table.indices s.table.stored x → r ≡ Err Missing → Stepped capacity (del x) s pool scratch r s pool scratch
   unfolding first
-  del_missing z f q =
-      stepped_refused MISSING (λ z. omega (arith, z)) (del_verdict capacity s pool scratch x z false (absent_stored s.table.indices s.table.starts s.table.counts pool s.table.stored x f)) q refl
+  del_missing z f e =
+      stepped_refused Missing e (del_verdict capacity s pool scratch x z false (absent_stored s.table.indices s.table.starts s.table.counts pool s.table.stored x f)) refl
 
   pub del_stands : (t : Table) (left : List ℕ) (j : ℕ) → Room capacity s pool scratch → s.phase ≡ steps → FirstAt s.table.indices s.table.stored x j
-      → Forgotten s.table pool j t left → length left ≡ length pool → {r : Step} → (r.verdict ≡ 0) × (r.state ≡ shrunk s t)
-      → Stepped capacity (del x) s pool scratch r left scratch
+      → Forgotten s.table pool j t left → Stepped capacity (del x) s pool scratch (Ok tt) (shrunk s t) left scratch
   unfolding first
-  del_stands t left j room z a f l w =
+  del_stands t left j room z a f =
       let o = room.ready in
       let q : store_of t left ≡ remove (store_of s.table pool) x = f.store x a in
-      told w (record {
+      record {
         verdict = del_verdict capacity s pool scratch x z true (found_stored s.table.indices s.table.starts s.table.counts pool s.table.stored x j a);
         next = λ _. ap (λ (u : Store). record {
           phase = s.phase;
@@ -181,7 +191,7 @@ module _ {capacity : ℕ} {s : State} {pool scratch : List ℕ} {x : ℕ} where
           products = s.products;
         }) q ∙ sym (after_del (state_of s pool scratch) x);
         ready = λ _. record {
-          fitting = forgotten_fitting s.table t pool left capacity j o.fitting f l;
+          fitting = forgotten_fitting s.table t pool left capacity j o.fitting f;
           room = o.room;
           aim = o.aim;
           ringed = o.ringed;
@@ -192,6 +202,6 @@ module _ {capacity : ℕ} {s : State} {pool scratch : List ℕ} {x : ℕ} where
         lines = λ _. refl;
         back = λ n. absurd (n refl);
         untouched = λ n. absurd (n refl);
-        pool_length = l;
+        pool_length = f.same;
         scratch_length = refl;
-      })
+      }

@@ -1,17 +1,22 @@
 -- What the parts of a step say: rows of the paper's table, what a statement has to store, and what the pool takes.
-use Rattle.std.specs.Prelude.{◌≡◌, Bool, not, ◌||◌, List, [], ◌∷◌, ◌++◌, ℕ, ◌+◌, ◌*◌, ◌≤◌}
+use Rattle.std.specs.Prelude.{◌≡◌, Bool, not, ◌||◌, List, [], ◌∷◌, ◌++◌, ℕ, ◌+◌, ◌*◌, ◌≤◌, Result, Ok}
 use lib.{Bits.bit_or, Dec.eqb, Dec.leb, Dec.ltb, ListN.length, ListN.drop, Seq.paste}
 use Rattle.limits.specs.Limits.{stored_polynomials, field_terms, line_products, term_words}
-use Rattle.limits.specs.Verdicts.{ORDER, TAKEN, SEEN, PRODUCTS, MISMATCH, NOTBIT, FULL}
+use Rattle.limits.specs.Refusals.{outcome}
+use Rattle.limits.specs.declared.refusal.Refusal.{Refusal}
+use Rattle.limits.specs.Verdicts.{ACCEPTED, ORDER, TAKEN, SEEN, PRODUCTS, MISMATCH, NOTBIT, FULL}
 use Rattle.algebra.specs.Polynomial.{Poly, has, equal, reduce, product}
 use Rattle.words.specs.Words.{number_of}
 use Rattle.terms.specs.Terms.{decode}
 use Rattle.paper.specs.Statement.{Written, Pair, reduced}
 use Rattle.paper.specs.Rules.{first, Store, find, shows, combination}
 use Rattle.scratch.specs.Scratch.{stated_at, goal_at}
-use Rattle.sums.specs.Rows.{Rows, or_else}
+use Rattle.sums.specs.Rows.{Rows}
 use Rattle.sums.specs.Sums.{pair_rows}
+use Rattle.table.specs.Columns.{Pushed}
 use Rattle.steps.specs.declared.check.Candidate.{Candidate}
+use Rattle.steps.specs.declared.state.State.{State}
+use Rattle.steps.specs.State.{grown}
 
 -- ---- the rows of a statement that stores a polynomial, in the paper's order
 -- first: in its phase, with an index that is taken or not
@@ -34,20 +39,31 @@ ext_rows k seen v p =
 abbrev pub full_rows : Bool → Rows
 full_rows full = (FULL, full) ∷ []
 
--- ---- refused by these rows, or q in the stated region, so many products made, and these variables seen
-pub record CandidateIs (rows : Rows) (q : Poly) (made shown : ℕ) (s r : List ℕ) (c : Candidate) : Type 0 where
-  pub verdict : c.verdict ≡ first rows
-  pub run : c.verdict ≡ 0 → decode c.terms (drop stated_at r) ≡ q
-  pub few : c.verdict ≡ 0 → c.terms ≤ field_terms
-  pub count : c.verdict ≡ 0 → c.products ≡ made
-  pub most : c.verdict ≡ 0 → c.products ≤ line_products
-  pub seen : c.verdict ≡ 0 → number_of c.seen ≡ shown
+-- ---- q in the stated region, so many products made, and these variables seen
+pub record MadeIs (q : Poly) (made shown : ℕ) (r : List ℕ) (m : Candidate) : Type 0 where
+  pub run : decode m.terms (drop stated_at r) ≡ q
+  pub few : m.terms ≤ field_terms
+  pub count : m.products ≡ made
+  pub most : m.products ≤ line_products
+  pub seen : number_of m.seen ≡ shown
+
+-- or refused by these rows
+pub record CandidateIs (rows : Rows) (q : Poly) (made shown : ℕ) (s r : List ℕ) (c : Result Candidate Refusal) : Type 0 where
+  pub verdict : outcome c ≡ first rows
+  pub makes : (m : Candidate) → c ≡ Ok m → MadeIs q made shown r m
   pub goal : drop goal_at r ≡ drop goal_at s
   pub same : length r ≡ length s
 
--- ---- a verdict v stays; else the n terms of the stated region go behind the used ones of the pool, where there is room for a polynomial more
-pub record PoolTakes (v stored used n capacity : ℕ) (pool scratch : List ℕ) (r : ℕ) (pool' : List ℕ) : Type 0 where
-  pub verdict : r ≡ or_else v (first (full_rows (leb stored_polynomials stored || ltb capacity (used + n))))
-  pub kept : r ≡ 0 → pool' ≡ paste pool (used * term_words) (drop stated_at scratch) (n * term_words)
-  pub untouched : (r ≡ 0 → ⊥) → pool' ≡ pool
+-- ---- the n terms of the stated region go behind the used ones of the pool, where there is room for a polynomial more
+pub record PoolTakes (stored used n capacity : ℕ) (pool scratch : List ℕ) (r : Result Unit Refusal) (pool' : List ℕ) : Type 0 where
+  pub verdict : outcome r ≡ first (full_rows (leb stored_polynomials stored || ltb capacity (used + n)))
+  pub kept : outcome r ≡ ACCEPTED → pool' ≡ paste pool (used * term_words) (drop stated_at scratch) (n * term_words)
+  pub untouched : (outcome r ≡ ACCEPTED → ⊥) → pool' ≡ pool
   pub same : length pool' ≡ length pool
+
+-- ---- that polynomial is stored under x, and what the line made counts; or all is as it was
+pub record StoredIs (capacity x : ℕ) (c : Candidate) (reached : Bool) (s : State) (pool scratch : List ℕ) (r : Result Unit Refusal) (s' : State) (pool' : List ℕ) : Type 0 where
+  pub taken : PoolTakes s.table.stored s.table.used c.terms capacity pool scratch r pool'
+  pub pushed : outcome r ≡ ACCEPTED → Pushed s.table x c.terms s'.table
+  pub next : outcome r ≡ ACCEPTED → s' ≡ grown s s'.table c.seen reached (s.products + c.products)
+  pub back : (outcome r ≡ ACCEPTED → ⊥) → s' ≡ s

@@ -1,11 +1,12 @@
 -- What the checker's state stands for, and what holds of it between two statements.
-use Rattle.std.specs.Prelude.{◌≡◌, List, ℕ, ◌+◌, ◌*◌, ◌≤◌, ◌<◌, length, drop}
+use Rattle.std.specs.Prelude.{◌≡◌, Bool, List, ℕ, ◌+◌, ◌*◌, ◌≤◌, ◌<◌, length, drop}
 use Rattle.limits.specs.Limits.{field_terms, line_products, greatest_ring, most_pool_terms, term_words, least_scratch}
 use Rattle.words.specs.Words.{number_of}
 use Rattle.terms.specs.Terms.{decode}
 use Rattle.paper.specs.Rules as paper
 use Rattle.paper.specs.Rules.{Distinct, start}
 use Rattle.paper.specs.Statement.{modulo}
+use Rattle.table.specs.declared.Table.{Table}
 use Rattle.table.specs.Table.{store_of, Fitting}
 use Rattle.table.specs.Columns as table
 use Rattle.scratch.specs.Scratch.{goal_at}
@@ -32,16 +33,16 @@ pub record Ready (capacity : ℕ) (s : State) (pool scratch : List ℕ) : Type 0
   pub distinct : Distinct (store_of s.table pool)
   pub few : s.products ≤ line_products * s.lines
 
--- one more statement stood
-abbrev pub counted : State → State
-counted s = record {
+-- one more statement stood, which stored a polynomial
+abbrev pub grown : State → Table → List ℕ → Bool → ℕ → State
+grown s t seen reached products = record {
   phase = s.phase;
   ring = s.ring;
-  table = s.table;
-  seen = s.seen;
+  table = t;
+  seen = seen;
   goal_terms = s.goal_terms;
-  reached = s.reached;
-  products = s.products;
+  reached = reached;
+  products = products;
   lines = s.lines + 1;
 }
 

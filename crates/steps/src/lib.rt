@@ -1,4 +1,4 @@
-// The steps of the checker: methods that take the state by value and hand it back with its verdict.
+// The steps of the checker: methods that change the state where a statement stands, and say how it is refused where it does not.
 
 #![tactic(auto)]
 

@@ -1,8 +1,5 @@
 // The state between two lines.
-ghost use Rattle.std.specs.Prelude.{◌≡◌, ◌≤◌};
-ghost use Rattle.limits.specs.Limits.{text_bytes};
-ghost use Rattle.limits.specs.Verdicts.{ACCEPTED};
-ghost use Rattle.steps.specs.State.{counted, AtStart};
+ghost use Rattle.steps.specs.State.{AtStart};
 
 use table::Table;
 use words::Set;
@@ -29,12 +26,6 @@ pub struct State {
     pub lines: u64,
 }
 
-#[derive(Drop)]
-pub struct Step {
-    pub verdict: u64,
-    pub state: State,
-}
-
 impl State {
     // Before the first line.
     pub fn new() -> State
@@ -50,24 +41,5 @@ impl State {
             products: 0,
             lines: 0,
         }
-    }
-
-    // Hands the state back with its verdict.
-    pub fn with_verdict(self, verdict: u64) -> Step
-        ensures { (result.verdict ≡ verdict) × (result.state ≡ self) }
-    {
-        Step {
-            verdict,
-            state: self,
-        }
-    }
-
-    // One more statement stands.
-    pub(crate) fn stands(mut self) -> Step
-        requires { self.lines ≤ text_bytes }
-        ensures { (result.verdict ≡ ACCEPTED) × (result.state ≡ counted self) }
-    {
-        self.lines += 1;
-        self.with_verdict(limits::ACCEPTED)
     }
 }

@@ -4,28 +4,13 @@ use mathlib.Core.Bool.{Bool, true, false, cond}
 use mathlib.Core.List.{[], ◌∷◌, ◌++◌}
 use Prim.Native.Nat.{ℕ, ◌<◌}
 use native.Mathlib.Omega.{arith}
-use lib.Dec.{eqb}
-use borrow.Author.Tests.{eqb-true, eqb-false, ne_eqb}
+use borrow.Author.Tests.{ne_eqb}
 use Rattle.limits.specs.Verdicts.{ACCEPTED}
 use Rattle.paper.specs.Rules.{first}
 use Rattle.sums.specs.Rows.{Rows, or_else}
 
 pub else_stop : (v w : ℕ) → (v ≡ 0 → ⊥) → or_else v w ≡ v
 else_stop v w n = ap (λ (b : Bool). cond b w v) (ne_eqb v ACCEPTED n)
-
-pub else_same : (v a b : ℕ) → (v ≡ 0 → a ≡ b) → or_else v a ≡ or_else v b
-else_same v a b h = go (eqb v ACCEPTED) (eqb-true v ACCEPTED)
-  where
-    go : (t : Bool) → (t ≡ true → v ≡ 0) → cond t a v ≡ cond t b v
-    go true e = h (e refl)
-    go false e = refl
-
-pub else_open : (v w : ℕ) → or_else v w ≡ 0 → (v ≡ 0) × (w ≡ 0)
-else_open v w e = go (eqb v ACCEPTED) e (eqb-true v ACCEPTED) (eqb-false v ACCEPTED)
-  where
-    go : (t : Bool) → cond t w v ≡ 0 → (t ≡ true → v ≡ 0) → (t ≡ false → v ≡ 0 → ⊥) → (v ≡ 0) × (w ≡ 0)
-    go true e h n = (h refl, e)
-    go false e h n = absurd (n refl e)
 
 -- every row can refuse
 abbrev pub Refusing : Rows → Type 0

@@ -1,6 +1,7 @@
 -- A sum with one pair more. Assumes nothing.
 use mathlib.Core.Path.{◌≡◌, refl, sym, ap, ap₂, subst, ◌∙◌}
 use mathlib.Core.Bool.{Bool, true, false, ◌&&◌, not, and-true}
+use Rattle.std.proofs.Math.Bool.{and-false}
 use mathlib.Core.List.{List, [], ◌∷◌, ◌++◌, map-append, append-nil, append_assoc}
 use Prim.Native.Nat.{ℕ, ◌+◌, ◌*◌, ◌≤◌}
 use native.Mathlib.Nat.{add-zero}
@@ -13,6 +14,11 @@ use Rattle.ground.specs.Lists.{every, total}
 use Rattle.ground.proofs.Lists.{every_more}
 use Rattle.limits.specs.Limits.{line_products, set_words}
 use Rattle.limits.specs.Verdicts.{MISSING, PRODUCTS}
+use Rattle.limits.specs.Refusals.{outcome}
+use Rattle.limits.specs.declared.refusal.Refusal.{Refusal}
+use Rattle.limits.specs.declared.refusal.Refusal.TheVariants.{Missing}
+use Rattle.limits.proofs.Refusals.{refuses}
+use Rattle.std.specs.Prelude.{Option, Some, None, ok_or, Result, Ok, Err, IsErrAnd}
 use Rattle.algebra.specs.Polynomial.{Poly, products}
 use Rattle.algebra.proofs.Unions.{or_assoc}
 use Rattle.words.specs.Parts.{Within}
@@ -24,36 +30,36 @@ use Rattle.reduction.proofs.Reordered.{total_append}
 use Rattle.paper.specs.Statement.{Written, Pair, reduced}
 use Rattle.paper.specs.Rules.{first, Store, stored, find, shows, shows_all, combination}
 use Rattle.table.specs.Table.{poly_at, store_of_columns}
-use Rattle.table.specs.Columns.{Absent, FirstAt}
-use Rattle.table.proofs.Laws.{absent_stored, found_stored, found_find}
+use Rattle.table.specs.Columns.{Finds, FirstAt}
+use Rattle.table.proofs.Laws.{found_at, found_nothing, absent_stored, found_stored, found_find}
 use Rattle.scratch.specs.Scratch.{stated_at, factor_at, goal_at, ReducedAt}
 use Rattle.scratch.specs.declared.Reduced.{Reduced}
 use Rattle.scratch.proofs.Keeping.{kept_factor}
 use Rattle.sums.specs.declared.Sum.{Sum}
-use Rattle.sums.specs.Sums.{indices_of, factors_of, products_of, pair_rows, Summed, Extended}
+use Rattle.sums.specs.Sums.{indices_of, factors_of, products_of, pair_rows, SumOf, Summed, Extended}
 use Rattle.sums.proofs.Rows.{first_open}
-use Rattle.sums.proofs.Adding.{extended_as}
+use Rattle.sums.proofs.Adding.{of_ok, extended_as}
 
 -- ---- no pairs
-pub summed_none : {k : ℕ} {store : Store} {scratch : List ℕ} {sum : Sum} → sum ≡ record { verdict = 0; terms = 0; seen = replicate set_words 0 } → Summed k store [] scratch sum
+pub summed_none : {k : ℕ} {store : Store} {scratch : List ℕ} → Summed k store [] scratch (Ok (record { terms = 0; seen = replicate set_words 0 }))
 unfolding first products_of combination shows_all every total decode rounded number_of
-summed_none {k} {store} {scratch} e = subst (Summed k store [] scratch) (sym e) (record {
+summed_none {k} {store} {scratch} = record {
   verdict = refl;
-  count = λ _. refl;
-  most = λ _. omega arith;
-  run = λ _. refl;
-  seen = λ _. refl;
-})
+  some = of_ok (SumOf k store [] scratch) (record { terms = 0; seen = replicate set_words 0 })
+      (record { count = refl; most = omega arith; run = refl; seen = refl });
+}
 
 -- the sum stays where a change leaves the products
-pub summed_kept : {k : ℕ} {store : Store} {qs : List Pair} {s r : List ℕ} {sum : Sum} (a e : ℕ) → Within a e s r → stated_at ≤ a → Summed k store qs s sum → Summed k store qs r sum
-summed_kept {s = s} {r} {sum} a e w l u = record {
-  verdict = u.verdict;
+sum_kept : {k : ℕ} {store : Store} {qs : List Pair} {s r : List ℕ} {m : Sum} (a e : ℕ) → Within a e s r → stated_at ≤ a → SumOf k store qs s m → SumOf k store qs r m
+sum_kept {s = s} {r} {m} a e w l u = record {
   count = u.count;
   most = u.most;
-  run = λ z. decode_below sum.terms a e s r w (omega (arith, u.most z)) ∙ u.run z;
+  run = decode_below m.terms a e s r w (omega (arith, u.most)) ∙ u.run;
   seen = u.seen;
 }
+
+pub summed_kept : {k : ℕ} {store : Store} {qs : List Pair} {s r : List ℕ} {sum : Result Sum Refusal} (a e : ℕ) → Within a e s r → stated_at ≤ a → Summed k store qs s sum → Summed k store qs r sum
+summed_kept a e w l u = record { verdict = u.verdict; some = λ m o. sum_kept a e w l (u.some m o) }
 
 -- ---- one item more
 shows_more : (k : ℕ) (ps : List Written) (p : Written) → shows_all k (ps ++ (p ∷ [])) ≡ bit_or (shows k p) (shows_all k ps)
@@ -78,7 +84,7 @@ module _ (k : ℕ) (named : ℕ → Poly) where
       ∙ ap (λ (m : ℕ). products_of k named qs + m) (add-zero (length (reduced k q.factor) * length (named q.index)))
 
 -- ---- one pair more
-module _ {k : ℕ} {store : Store} {qs : List Pair} {s : List ℕ} {old : Sum} (index : ℕ) (w : Written) (a : Summed k store qs s old) where
+module _ {k : ℕ} {store : Store} {qs : List Pair} {s : List ℕ} {old : Result Sum Refusal} (index : ℕ) (w : Written) (a : Summed k store qs s old) where
   abbrev q : Pair
   q = record { index = index; factor = w }
 
@@ -98,31 +104,20 @@ module _ {k : ℕ} {store : Store} {qs : List Pair} {s : List ℕ} {old : Sum} (
   rows_of present over = first ((MISSING, not present) ∷ (PRODUCTS, over) ∷ [])
 
   -- refused, for one reason or the other
-  refused : {r : List ℕ} {sum : Sum} → (sum.verdict ≡ 0 → ⊥) → sum.verdict ≡ first (pair_rows k store more) → Summed k store more r sum
-  refused n e = record {
-    verdict = e;
-    count = λ z. absurd (n z);
-    most = λ z. absurd (n z);
-    run = λ z. absurd (n z);
-    seen = λ z. absurd (n z);
-  }
+  refused : {r : List ℕ} {sum : Result Sum Refusal} → (outcome sum ≡ 0 → ⊥) → outcome sum ≡ first (pair_rows k store more) → Summed k store more r sum
+  refused n e = record { verdict = e; some = λ m o. absurd (n (ap outcome o)) }
 
-  summed_missing : stored store index ≡ false → {r : List ℕ} {sum : Sum} → sum ≡ record { verdict = MISSING; terms = 0; seen = replicate set_words 0 } → Summed k store more r sum
+  summed_missing : stored store index ≡ false → {r : List ℕ} → Summed k store more r (Err Missing)
   unfolding first
-  summed_missing e {r} {sum} v =
-      let m : sum.verdict ≡ MISSING = ap (λ (x : Sum). x.verdict) v in
-      refused (λ z. omega (arith, m, z)) (m ∙ sym (ap (λ (b : Bool). rows_of b (ltb line_products (products_of k (find store) more))) (all_more false e ∙ and_false (every (stored store) (indices_of qs)))))
-    where
-      and_false : (b : Bool) → (b && false) ≡ false
-      and_false true = refl
-      and_false false = refl
+  summed_missing e =
+      refused (refuses Missing) (sym (ap (λ (b : Bool). rows_of b (ltb line_products (products_of k (find store) more))) (all_more false e ∙ and-false (every (stored store) (indices_of qs)))))
 
   module _ (e : stored store index ≡ true) where
     present : every (stored store) (indices_of more) ≡ every (stored store) (indices_of qs)
     present = all_more true e ∙ and-true (every (stored store) (indices_of qs))
 
     -- too many before are too many now
-    summed_stopped : (old.verdict ≡ 0 → ⊥) → Summed k store more s old
+    summed_stopped : (outcome old ≡ 0 → ⊥) → Summed k store more s old
     unfolding first
     summed_stopped n = refused n (a.verdict ∙ go (every (stored store) (indices_of qs)) (ltb line_products (products_of k (find store) qs)) refl refl
         ∙ sym (ap (λ (b : Bool). rows_of b (ltb line_products (products_of k (find store) more))) present))
@@ -136,44 +131,69 @@ module _ {k : ℕ} {store : Store} {qs : List Pair} {s : List ℕ} {old : Sum} (
             ap (rows_of (every (stored store) (indices_of qs)))
             (y ∙ sym (lt-ltb line_products (products_of k (find store) more) (omega (arith, ltb-true line_products (products_of k (find store) qs) y, products_more k (find store) qs q))))
 
-    summed_more : old.verdict ≡ 0 → {r : List ℕ} {sum : Sum} → Extended (reduced k w) (find store index) (shows k w) old s r sum → Summed k store more r sum
+    summed_more : (m : Sum) → old ≡ Ok m → {r : List ℕ} {sum : Result Sum Refusal} → Extended (reduced k w) (find store index) (shows k w) m s r sum → Summed k store more r sum
     unfolding first
-    summed_more z {r} {sum} x = record {
-      verdict = x.verdict ∙ sym (ap₂ rows_of (present ∙ all) (ap (ltb line_products) counted));
-      count = λ y. x.count y ∙ sym counted;
-      most = x.most;
-      run = λ y. x.run y ∙ ap (λ (p : Poly). p ++ rounded row) (a.run z) ∙ sym (rounded_append (combination k (find store) qs) row)
-          ∙ ap rounded (sym (combination_more k (find store) qs q));
-      seen = λ y. x.seen y ∙ ap (bit_or (shows k w)) (a.seen z) ∙ sym (ap (shows_all k) factors_more ∙ shows_more k (factors_of qs) w);
-    }
+    summed_more m o {r} {sum} x = record { verdict = x.verdict ∙ sym (ap₂ rows_of (present ∙ all) (ap (ltb line_products) counted)); some = some }
       where
         row : Poly
         row = products (reduced k w) (find store index)
 
         all : every (stored store) (indices_of qs) ≡ true
-        all = not-false (every (stored store) (indices_of qs)) (first_open MISSING (not (every (stored store) (indices_of qs))) ((PRODUCTS, ltb line_products (products_of k (find store) qs)) ∷ []) (omega arith) (sym a.verdict ∙ z)).0
+        all = not-false (every (stored store) (indices_of qs)) (first_open MISSING (not (every (stored store) (indices_of qs))) ((PRODUCTS, ltb line_products (products_of k (find store) qs)) ∷ []) (omega arith) (sym a.verdict ∙ ap outcome o)).0
 
-        counted : products_of k (find store) more ≡ old.terms + length (reduced k w) * length (find store index)
-        counted = products_more k (find store) qs q ∙ ap (λ (m : ℕ). m + length (reduced k w) * length (find store index)) (sym (a.count z))
+        before : SumOf k store qs s m
+        before = a.some m o
+
+        counted : products_of k (find store) more ≡ m.terms + length (reduced k w) * length (find store index)
+        counted = products_more k (find store) qs q ∙ ap (λ (i : ℕ). i + length (reduced k w) * length (find store index)) (sym before.count)
+
+        some : (y : Sum) → sum ≡ Ok y → SumOf k store more r y
+        some y e =
+            let b = x.some y e in
+            record {
+              count = b.count ∙ sym counted;
+              most = b.most;
+              run = b.run ∙ ap (λ (p : Poly). p ++ rounded row) before.run ∙ sym (rounded_append (combination k (find store) qs) row)
+                  ∙ ap rounded (sym (combination_more k (find store) qs q));
+              seen = b.seen ∙ ap (bit_or (shows k w)) before.seen ∙ sym (ap (shows_all k) factors_more ∙ shows_more k (factors_of qs) w);
+            }
+
+-- ---- what `?` hands on
+handed_on : {why : Refusal} (sum : Result Sum Refusal) → IsErrAnd sum (λ v. v ≡ why) → sum ≡ Err why
+handed_on (Ok m) h = absurd h
+handed_on (Err v) h = ap (λ (y : Refusal). Err y) h
+
+missed : (found : Option ℕ) (why : Refusal) → ok_or found Missing ≡ Err why → (found ≡ None) × (why ≡ Missing)
+missed (Some j) why e = cc
+missed None why e = (refl, cc)
+
+pub placed : {column : List ℕ} {n x j : ℕ} (found : Option ℕ) → Finds column n x found → ok_or found Missing ≡ Ok j → FirstAt column n x j
+placed {j = j} (Some i) o e = found_at (let h : Some i ≡ Some j = cc in h) o
+placed None o e = cc
 
 -- ---- the index looked up in the columns
 module _ (indices starts counts pool : List ℕ) (n index : ℕ) where
   abbrev store' : Store
   store' = store_of_columns indices starts counts pool n
 
-  module _ {k : ℕ} {qs : List Pair} {s : List ℕ} {old : Sum} (w : Written) (a : Summed k store' qs s old) where
-    pub factor_missing : Absent indices n index → {r : List ℕ} {sum : Sum} → sum ≡ record { verdict = MISSING; terms = 0; seen = replicate set_words 0 }
-        → Summed k store' (qs ++ (record { index = index; factor = w } ∷ [])) r sum
-    factor_missing o e = summed_missing index w a (absent_stored indices starts counts pool n index o) e
+  module _ {k : ℕ} {qs : List Pair} {s : List ℕ} {old : Result Sum Refusal} (w : Written) (a : Summed k store' qs s old) where
+    pub factor_missing : (found : Option ℕ) {why : Refusal} → Finds indices n index found → ok_or found Missing ≡ Err why → {r : List ℕ} (sum : Result Sum Refusal)
+        → IsErrAnd sum (λ v. v ≡ why) → Summed k store' (qs ++ (record { index = index; factor = w } ∷ [])) r sum
+    factor_missing found {why} o e {r} sum v =
+        let m = missed found why e in
+        subst (Summed k store' (qs ++ (record { index = index; factor = w } ∷ [])) r) (sym (handed_on sum v ∙ ap (λ (y : Refusal). Err y) m.1))
+        (summed_missing index w a (absent_stored indices starts counts pool n index (found_nothing m.0 o)))
 
     module _ {j : ℕ} (o : FirstAt indices n index j) where
-      pub factor_stopped : (old.verdict ≡ 0 → ⊥) → Summed k store' (qs ++ (record { index = index; factor = w } ∷ [])) s old
-      factor_stopped v = summed_stopped index w a (found_stored indices starts counts pool n index j o) v
+      pub factor_stopped : {why : Refusal} → old ≡ Err why → (sum : Result Sum Refusal) → IsErrAnd sum (λ v. v ≡ why)
+          → Summed k store' (qs ++ (record { index = index; factor = w } ∷ [])) s sum
+      factor_stopped {why} e sum v = subst (Summed k store' (qs ++ (record { index = index; factor = w } ∷ [])) s) (e ∙ sym (handed_on sum v))
+          (summed_stopped index w a (found_stored indices starts counts pool n index j o) (λ z. refuses why (sym (ap outcome e) ∙ z)))
 
-      pub factor_added : {y r : List ℕ} {d : Reduced} {sum : Sum} → old.verdict ≡ 0 → ReducedAt k w factor_at s y d
-          → Extended (decode d.terms (drop factor_at y)) (poly_at starts counts pool j) (number_of d.shown) old y r sum
+      pub factor_added : {y r : List ℕ} {d : Reduced} {sum : Result Sum Refusal} (m : Sum) → old ≡ Ok m → ReducedAt k w factor_at s y d
+          → Extended (decode d.terms (drop factor_at y)) (poly_at starts counts pool j) (number_of d.shown) m y r sum
           → Summed k store' (qs ++ (record { index = index; factor = w } ∷ [])) r sum
-      factor_added {y} v d x =
-          summed_more index w a (found_stored indices starts counts pool n index j o) v
+      factor_added {y} m e d x =
+          summed_more index w a (found_stored indices starts counts pool n index j o) m e
           (extended_as d.at.run (sym (found_find indices starts counts pool n index j o)) d.shown
-          (decode_below old.terms factor_at goal_at s y d.at.within (omega (arith, a.most v))) (kept_factor s y d.at.within) x)
+          (decode_below m.terms factor_at goal_at s y d.at.within (omega (arith, (a.some m e).most))) (kept_factor s y d.at.within) x)

@@ -1,5 +1,5 @@
 -- Closing the gap over the columns and the pool: the rest is packed again, and its store_of_columns are those of before without one. Assumes nothing.
-use mathlib.Core.Path.{◌≡◌, sym, ap, ap₂, subst, ◌∙◌}
+use mathlib.Core.Path.{◌≡◌, refl, sym, ap, ap₂, subst, ◌∙◌}
 use mathlib.Core.Logic.{⊎_elim}
 use mathlib.Core.List.{List}
 use Prim.Native.Nat.{ℕ, zero, suc, ◌+◌, ◌-◌, ◌*◌, ◌≤◌, ◌<◌}
@@ -7,7 +7,7 @@ use native.Mathlib.Nat.{eq-or-lt_of_le, sub-zero}
 use native.Mathlib.Omega.{arith}
 use lib.Dec.{leb}
 use lib.ListN.{length, drop, get_or, length-drop}
-use lib.Seq.{paste}
+use Rattle.std.proofs.lemmas.List.Edits.{length-paste}
 use borrow.Author.Tests.{leb-true, leb-false}
 use Rattle.words.specs.Parts.{part, Within}
 use Rattle.words.proofs.Parts.{paste_within}
@@ -18,17 +18,12 @@ use Rattle.terms.specs.Terms.{decode}
 use Rattle.terms.proofs.Decode.{decode_same}
 use Rattle.paper.specs.Rules.{Store, remove}
 use Rattle.table.specs.declared.Table.{Table}
-use Rattle.table.specs.Table.{poly_at, entry_at, store_of_columns, store_of, terms_before, PackedColumns, Packed, Fitting}
-use Rattle.table.specs.Columns.{Closed, FirstAt}
+use Rattle.table.specs.Table.{poly_at, entry_at, store_of_columns, terms_before, PackedColumns, Packed, Fitting}
+use Rattle.table.specs.Columns.{FirstAt, Closed, Shifted, Lowered, closed_pool, Removed, Forgotten}
 use Rattle.table.proofs.Firsts.{firsts_split, firsts_cut, behind, stored_none, remove_split}
-use Rattle.table.proofs.Moving.{moved_part}
+use Rattle.table.proofs.Moving.{moved_part, closed_column, closed_lowered}
 use Rattle.table.proofs.Packing.{before_more, before_same, ends_before, ends_used}
 use Rattle.table.proofs.Laws.{poly_kept}
-
--- the words of the pool once the j-th polynomial is gone
-abbrev pub closed_pool : List ℕ → ℕ → ℕ → ℕ → List ℕ
-closed_pool pool start count used =
-    paste pool (start * term_words) (drop (start * term_words + count * term_words) pool) (used * term_words - (start * term_words + count * term_words))
 
 -- the sums of a closed column of counts
 module _ (cs ds : List ℕ) (j n : ℕ) (h : j < n) (c : Closed cs j n 0 ds) where
@@ -130,31 +125,37 @@ module _ (is ss cs pool js ts ds : List ℕ) (j n used : ℕ) (p : PackedColumns
       after : (k : ℕ) → j ≤ k → k + 1 < n → entry_at js ts ds left k ≡ entry_at is ss cs pool (k + 1)
       after k l m = ap₂ (λ (i : ℕ) (q : Poly). record { index = i; poly = q }) (ci.behind k l m ∙ sub-zero _) (poly_behind k l m)
 
--- the j-th entry, which is the first under its index, is gone from the table and the pool
-pub record Forgotten (s : Table) (pool : List ℕ) (j : ℕ) (r : Table) (left : List ℕ) : Type 0 where
-  pub store : (x : ℕ) → FirstAt s.indices s.stored x j → store_of r left ≡ remove (store_of s pool) x
-  pub packed : Packed r
-  pub stored : r.stored + 1 ≡ s.stored
-  pub used : r.used + get_or s.counts j 0 ≡ s.used
+-- the columns moved up to the j-th, and the starts lowered
+pub removed : {s : Table} {pool is ss ts cs rest : List ℕ} {j : ℕ} → j < s.stored → Shifted s.indices j 1 s.stored is
+    → Shifted s.starts j 1 s.stored ss → Lowered ss j (s.stored - 1) (get_or s.counts j 0) ts → Shifted s.counts j 1 s.stored cs
+    → rest ≡ closed_pool pool (get_or s.starts j 0) (get_or s.counts j 0) s.used
+    → Removed s pool j (record { indices = is; starts = ts; counts = cs; stored = s.stored - 1; used = s.used - get_or s.counts j 0 }) rest
+removed {s} {j = j} h mi ms l mc e = record {
+  indices = closed_column s.indices _ j s.stored h mi;
+  starts = closed_lowered s.starts _ _ j s.stored _ h (closed_column s.starts _ j s.stored h ms) l;
+  counts = closed_column s.counts _ j s.stored h mc;
+  stored = refl;
+  used = refl;
+  words = e;
+}
 
--- a table whose three columns and whose pool are closed over the j-th polynomial, count terms from term start on
-pub forgotten : (s : Table) (pool js ts ds left : List ℕ) (j start count : ℕ) → Packed s → j < s.stored → s.used * term_words ≤ length pool
-    → start ≡ get_or s.starts j 0 → count ≡ get_or s.counts j 0
-    → Closed s.indices j s.stored 0 js → Closed s.starts j s.stored count ts → Closed s.counts j s.stored 0 ds
-    → left ≡ closed_pool pool start count s.used
-    → Forgotten s pool j (record { indices = js; starts = ts; counts = ds; stored = s.stored - 1; used = s.used - count }) left
-forgotten s pool js ts ds left j start count p h room es ec ci ct cd e =
-    let cf : Closed s.starts j s.stored (get_or s.counts j 0) ts = subst (λ (x : ℕ). Closed s.starts j s.stored x ts) ec ct in
-    let el : left ≡ closed_pool pool (get_or s.starts j 0) (get_or s.counts j 0) s.used = e ∙ ap₂ (λ (a c : ℕ). closed_pool pool a c s.used) es ec in
-    record {
-      store = λ x f. ap (λ (l : List ℕ). store_of_columns js ts ds l (s.stored - 1)) el
-          ∙ left_store s.indices s.starts s.counts pool js ts ds j s.stored s.used p h room ci cf cd x f;
-      packed = subst (λ (x : ℕ). PackedColumns ts ds (s.stored - 1) (s.used - x)) (sym ec)
-          (left_packed s.indices s.starts s.counts pool js ts ds j s.stored s.used p h room ci cf cd);
-      stored = omega arith;
-      used = omega (arith, ends_used s.starts s.counts s.stored s.used j p h);
-    }
+-- a table whose three columns and whose pool are closed over the j-th polynomial
+pub forgotten : (s r : Table) (pool rest : List ℕ) (j : ℕ) → Packed s → j < s.stored → s.used * term_words ≤ length pool
+    → Removed s pool j r rest → Forgotten s pool j r rest
+forgotten s r pool rest j p h room c = record {
+  store = λ x f. (λ i. store_of_columns r.indices r.starts r.counts (c.words i) (c.stored i))
+      ∙ left_store s.indices s.starts s.counts pool r.indices r.starts r.counts j s.stored s.used p h room c.indices c.starts c.counts x f;
+  packed = subst (λ (n : ℕ). PackedColumns r.starts r.counts n r.used) (sym c.stored)
+      (subst (PackedColumns r.starts r.counts (s.stored - 1)) (sym c.used)
+      (left_packed s.indices s.starts s.counts pool r.indices r.starts r.counts j s.stored s.used p h room c.indices c.starts c.counts));
+  stored = omega (arith, c.stored);
+  used = omega (arith, c.used, ends);
+  same = ap length c.words ∙ length-paste pool (get_or s.starts j 0 * term_words) _ _ (omega (arith, ends)) (simp length-drop (omega arith));
+}
+  where
+    ends : get_or s.starts j 0 + get_or s.counts j 0 ≤ s.used
+    ends = ends_used s.starts s.counts s.stored s.used j p h
 
 pub forgotten_fitting : (s r : Table) (pool left : List ℕ) (capacity j : ℕ) → Fitting s pool capacity
-    → Forgotten s pool j r left → length left ≡ length pool → Fitting r left capacity
-forgotten_fitting s r pool left capacity j f p h = record { packed = p.packed; room = omega (arith, p.used); words = omega arith; most = f.most }
+    → Forgotten s pool j r left → Fitting r left capacity
+forgotten_fitting s r pool left capacity j f p = record { packed = p.packed; room = omega (arith, p.used); words = omega (arith, p.same); most = f.most }

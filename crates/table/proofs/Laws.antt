@@ -3,6 +3,7 @@
 use mathlib.Core.Path.{◌≡◌, refl, sym, ap, subst, ◌∙◌}
 use mathlib.Core.Bool.{true, false}
 use mathlib.Core.List.{List, [], ◌∷◌}
+use Rattle.std.specs.Prelude.{Option, Some, None}
 use Prim.Native.Nat.{ℕ, zero, suc, ◌+◌, ◌*◌, ◌≤◌, ◌<◌}
 use native.Mathlib.Omega.{arith}
 use lib.ListN.{length, drop, get_or}
@@ -14,10 +15,8 @@ use Rattle.algebra.specs.Polynomial.{Poly}
 use Rattle.terms.proofs.Decode.{decode_length, decode_same}
 use Rattle.paper.specs.Rules.{Entry, stored, find, stored_terms}
 use Rattle.paper.proofs.Store.{terms_append}
-use Rattle.table.specs.declared.Found.{Found}
-use Rattle.table.specs.declared.Found.TheVariants.{At, Nothing}
 use Rattle.table.specs.declared.Table.{Table}
-use Rattle.table.specs.Table.{firsts, poly_at, entry_at, store_of_columns, store_of, terms_before, Packed, Fitting}
+use Rattle.table.specs.Table.{firsts, poly_at, entry_at, store_of_columns, store_of, terms_before, PackedColumns, Packed, PoolHolds, Fitting}
 use Rattle.table.specs.Columns.{Absent, FirstAt, Finds, Fresh}
 use Rattle.table.proofs.Firsts.{firsts_length, firsts_same, firsts_split, behind, stored_none, stored_split, find_split}
 use Rattle.table.proofs.Packing.{ends_used}
@@ -54,10 +53,10 @@ store_kept s pool r a e p w h =
         ap (λ (x : Poly). record { index = get_or s.indices j 0; poly = x }) q
 
 -- ---- what a search says
-pub found_at : {column : List ℕ} {n x j : ℕ} {r : Found} → r ≡ At j → Finds column n x r → FirstAt column n x j
+pub found_at : {column : List ℕ} {n x j : ℕ} {r : Option ℕ} → r ≡ Some j → Finds column n x r → FirstAt column n x j
 found_at {column} {n} {x} e f = subst (Finds column n x) e f
 
-pub found_nothing : {column : List ℕ} {n x : ℕ} {r : Found} → r ≡ Nothing → Finds column n x r → Absent column n x
+pub found_nothing : {column : List ℕ} {n x : ℕ} {r : Option ℕ} → r ≡ None → Finds column n x r → Absent column n x
 found_nothing {column} {n} {x} e f = subst (Finds column n x) e f
 
 module _ (is ss cs pool : List ℕ) (n x : ℕ) where
@@ -78,3 +77,18 @@ module _ (is ss cs pool : List ℕ) (n x : ℕ) where
 pub fresh_fitting : (r : Table) (pool : List ℕ) (capacity : ℕ) → Fresh r
     → capacity * term_words ≤ length pool → capacity ≤ most_pool_terms → Fitting r pool capacity
 fresh_fitting r pool capacity f w m = record { packed = f.packed; room = omega (arith, f.used); words = w; most = m }
+
+-- ---- a table that fits its pool
+pub packed_holds : (starts counts pool : List ℕ) (n used : ℕ) → PackedColumns starts counts n used → used * term_words ≤ length pool → used ≤ most_pool_terms
+    → PoolHolds starts counts n pool
+packed_holds starts counts pool n used p h m =
+    subst (λ (u : ℕ). PackedColumns starts counts n u × (u * term_words ≤ length pool) × (u ≤ most_pool_terms)) p.ends (p, h, m)
+
+pub fitting_holds : (s : Table) (pool : List ℕ) (capacity : ℕ) → Fitting s pool capacity → PoolHolds s.starts s.counts s.stored pool
+fitting_holds s pool capacity f =
+    packed_holds s.starts s.counts pool s.stored s.used f.packed (omega (arith, f.room, f.words)) (omega (arith, f.room, f.most))
+
+-- the words of the j-th polynomial are in the pool
+pub holds_words : (starts counts pool : List ℕ) (n j : ℕ) → PoolHolds starts counts n pool → j < n
+    → get_or starts j 0 * term_words + get_or counts j 0 * term_words ≤ length pool
+holds_words starts counts pool n j p h = omega (arith, ends_used starts counts n _ j p.0 h, p.1)

@@ -6,10 +6,11 @@ use Prim.Native.Nat.{ℕ, zero, suc, ◌+◌, ◌*◌, ◌≤◌, ◌<◌}
 use native.Mathlib.Numerals.{add-one}
 use native.Mathlib.Nat.{eq-or-lt_of_le, le_of_suc-le-suc, not-suc-le-zero}
 use native.Mathlib.Omega.{arith}
-use lib.ListN.{get_or}
-use Rattle.limits.specs.Limits.{field_terms}
-use Rattle.table.specs.Table.{terms_before, PackedColumns}
-use Rattle.table.specs.Columns.{Closable}
+use lib.ListN.{length, get_or}
+use Rattle.limits.specs.Limits.{field_terms, term_words}
+use Rattle.table.specs.declared.Table.{Table}
+use Rattle.table.specs.Table.{terms_before, PackedColumns, Packed}
+use Rattle.table.specs.Columns.{Closable, Removable}
 
 pub before_more : (cs : List ℕ) (j : ℕ) → terms_before cs (j + 1) ≡ terms_before cs j + get_or cs j 0
 unfolding terms_before
@@ -48,3 +49,10 @@ later_starts ss cs n used j k p l m = omega (arith, p.begins k m, ends_before cs
 -- the starts may be closed over a polynomial of count terms
 pub closable_starts : (ss cs : List ℕ) (n used j count : ℕ) → PackedColumns ss cs n used → j < n → count ≡ get_or cs j 0 → Closable ss j n count
 closable_starts ss cs n used j count p h e = record { inside = h; few = p.few; least = λ k l m. omega (arith, later_starts ss cs n used j k p l m) }
+
+pub removable : (s : Table) (pool : List ℕ) (j : ℕ) → Packed s → j < s.stored → s.used * term_words ≤ length pool → Removable s pool j
+removable s pool j p h room = record {
+  starts = closable_starts s.starts s.counts s.stored s.used j (get_or s.counts j 0) p h refl;
+  inside = ends_used s.starts s.counts s.stored s.used j p h;
+  words = room;
+}

@@ -1,5 +1,5 @@
 -- A polynomial added at the end of the columns: the table is packed again, and the store has one entry more. Assumes nothing.
-use mathlib.Core.Path.{◌≡◌, refl, ap₂, sym, subst, ◌∙◌}
+use mathlib.Core.Path.{◌≡◌, ap₂, sym, transport, ◌∙◌}
 use mathlib.Core.Logic.{⊎_elim}
 use mathlib.Core.List.{List, [], ◌∷◌, ◌++◌}
 use Prim.Native.Nat.{ℕ, ◌+◌, ◌*◌, ◌≤◌, ◌<◌}
@@ -11,7 +11,8 @@ use Rattle.limits.specs.Limits.{stored_polynomials, field_terms, term_words}
 use Rattle.terms.specs.Terms.{decode}
 use Rattle.paper.specs.Rules.{Entry, Store}
 use Rattle.table.specs.declared.Table.{Table}
-use Rattle.table.specs.Table.{entry_at, store_of_columns, store_of, terms_before, PackedColumns, Packed}
+use Rattle.table.specs.Table.{entry_at, store_of_columns, terms_before, PackedColumns, Packed}
+use Rattle.table.specs.Columns.{Added, Pushed}
 use Rattle.table.proofs.Firsts.{firsts_same, firsts_more}
 use Rattle.table.proofs.Packing.{before_more, before_same}
 
@@ -56,24 +57,15 @@ module _ (is ss cs : List ℕ) (n used index terms : ℕ) (li : n < length is) (
           → ◌≡◌ {A = Entry} (record { index = i; poly = decode c (drop (a * term_words) pool) }) (record { index = j; poly = decode d (drop (b * term_words) pool) })
       alike i j a b c d ei ea ec = λ t. record { index = ei t; poly = decode (ec t) (drop (ea t * term_words) pool) }
 
--- the terms behind the used ones are the last entry
-pub record Pushed (s : Table) (index terms : ℕ) (r : Table) : Type 0 where
-  pub store : (pool : List ℕ) → store_of r pool ≡ store_of s pool ++ (record { index = index; poly = decode terms (drop (s.used * term_words) pool) } ∷ [])
-  pub packed : Packed r
-  pub stored : r.stored ≡ s.stored + 1
-  pub used : r.used ≡ s.used + terms
-
 -- a table whose three columns have each one number more
-pub pushed : (s : Table) (index terms : ℕ) (is ss cs : List ℕ) → Packed s → s.stored < stored_polynomials → terms ≤ field_terms
+pub pushed : (s r : Table) (index terms : ℕ) → Packed s → s.stored < stored_polynomials → terms ≤ field_terms
     → s.stored < length s.indices → s.stored < length s.starts → s.stored < length s.counts
-    → is ≡ set s.indices s.stored index → ss ≡ set s.starts s.stored s.used → cs ≡ set s.counts s.stored terms
-    → Pushed s index terms (record { indices = is; starts = ss; counts = cs; stored = s.stored + 1; used = s.used + terms })
-pushed s index terms is ss cs p few low li ls lc ei es ec = record {
-  store = λ pool. (λ t. store_of_columns (ei t) (es t) (ec t) pool (s.stored + 1))
+    → Added s index terms r → Pushed s index terms r
+pushed s r index terms p few low li ls lc a = record {
+  store = λ pool. (λ i. store_of_columns (a.indices i) (a.starts i) (a.counts i) pool (a.stored i))
       ∙ pushed_store s.indices s.starts s.counts s.stored s.used index terms li ls lc pool;
-  packed = subst (λ (x : List ℕ). PackedColumns x cs (s.stored + 1) (s.used + terms)) (sym es)
-      (subst (λ (x : List ℕ). PackedColumns (set s.starts s.stored s.used) x (s.stored + 1) (s.used + terms)) (sym ec)
-      (pushed_packed s.indices s.starts s.counts s.stored s.used index terms li ls lc few low p));
-  stored = refl;
-  used = refl;
+  packed = transport (λ i. PackedColumns (sym a.starts i) (sym a.counts i) (sym a.stored i) (sym a.used i))
+      (pushed_packed s.indices s.starts s.counts s.stored s.used index terms li ls lc few low p);
+  stored = a.stored;
+  used = a.used;
 }

@@ -46,3 +46,9 @@ pub record Fitting (s : Table) (pool : List ℕ) (capacity : ℕ) : Type 0 where
   pub room : s.used ≤ capacity
   pub words : capacity * term_words ≤ length pool
   pub most : capacity ≤ most_pool_terms
+
+-- the columns are packed, and the pool holds their terms
+abbrev pub PoolHolds : List ℕ → List ℕ → ℕ → List ℕ → Type 0
+PoolHolds starts counts n pool =
+    let used : ℕ = terms_before counts n in
+    PackedColumns starts counts n used × (used * term_words ≤ length pool) × (used ≤ most_pool_terms)

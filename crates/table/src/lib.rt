@@ -2,11 +2,15 @@
 
 #![tactic(auto)]
 
-ghost use Rattle.std.specs.Prelude.{◌≡◌, ◌+◌, ◌-◌, ◌≤◌, ◌<◌, length, drop, get_or, set};
-ghost use Rattle.std.proofs.Math.Seq.{paste};
-ghost use Rattle.words.specs.Parts.{among_eight};
+ghost use Rattle.std.specs.Prelude.{◌≡◌, ℕ, ◌+◌, ◌≤◌, ◌<◌, length, get_or};
+ghost use Rattle.std.specs.List.{copy_within};
 ghost use Rattle.limits.specs.Limits.{stored_polynomials};
-ghost use Rattle.table.specs.Columns.{Absent, Finds, Closable, Closed, Fresh};
+ghost use Rattle.table.specs.Table.{Packed};
+ghost use Rattle.table.specs.Columns.{Finds, Shifted, Lowered, Fresh, Pushable, Added, Pushed, Removable, Removed, Forgotten};
+
+use words::search;
+
+pub mod stored;
 
 pub type Indices = [u32; limits::STORED_POLYNOMIALS];
 
@@ -27,12 +31,6 @@ pub struct Table {
     pub used: usize,
 }
 
-#[derive(Drop)]
-pub enum Found {
-    At(usize),
-    Nothing,
-}
-
 impl Table {
     // No polynomial is stored.
     pub fn new() -> Table
@@ -46,128 +44,70 @@ impl Table {
             used: 0,
         }
     }
-}
 
-// Whether x is one of the eight indices from j on.
-fn among(column: &Indices, j: usize, x: u32) -> bool
-    requires { j + 8 ≤ stored_polynomials }
-    ensures { result ≡ among_eight column.now j x }
-{
-    (column[j] == x)
-        | (column[j + 1] == x)
-        | (column[j + 2] == x)
-        | (column[j + 3] == x)
-        | (column[j + 4] == x)
-        | (column[j + 5] == x)
-        | (column[j + 6] == x)
-        | (column[j + 7] == x)
-}
-
-// A place of the indices before which x does not stand, at most n: it passes over eight of them at a time.
-fn skip(column: &Indices, n: usize, x: u32) -> usize
-    requires { n ≤ stored_polynomials }
-    ensures { (result ≤ n) × Absent column.now result x }
-{
-    let mut j = 0;
-    while j + 8 <= n {
-        if among(column, j, x) {
-            return j;
-        }
-        j += 8;
+    // Puts a polynomial of count terms, which lie behind the used ones of the pool, behind the stored ones.
+    pub fn push(&mut self, index: u32, count: usize)
+        requires { Pushable self.old count }
+        ensures columns { Added self.old index count self.new }
+        ensures store { Packed self.old → Pushed self.old index count self.new }
+    {
+        let at = self.stored;
+        self.indices[at] = index;
+        self.starts[at] = self.used as u16;
+        self.counts[at] = count as u8;
+        self.stored = at + 1;
+        self.used += count;
     }
-    j
+
+    // Takes the j-th polynomial out of the columns and its terms out of the pool: those behind it move down.
+    pub fn remove(&mut self, j: usize, pool: &mut [u64])
+        requires { Removable self.old pool.old j }
+        ensures columns { Removed self.old pool.old j self.new pool.new }
+        ensures store { Packed self.old → Forgotten self.old pool.old j self.new pool.new }
+    {
+        let n = self.stored;
+        let used = self.used;
+        let start = self.starts[j] as usize;
+        let count = self.counts[j];
+        let len = count as usize;
+        close_gap(&mut self.indices, j, 1, n);
+        close_gap(&mut self.starts, j, 1, n);
+        close_gap(&mut self.counts, j, 1, n);
+        lower(&mut self.starts, j, n - 1, count as u16);
+        close_gap(
+            pool,
+            start * limits::TERM_WORDS,
+            len * limits::TERM_WORDS,
+            used * limits::TERM_WORDS,
+        );
+        self.stored = n - 1;
+        self.used = used - len;
+    }
 }
 
 // The first place of x among the first n indices.
-pub fn find(column: &Indices, n: usize, x: u32) -> Found
+pub fn find(column: &Indices, n: usize, x: u32) -> Option<usize>
     requires { n ≤ stored_polynomials }
     ensures { Finds column.now n x result }
 {
-    let mut j = skip(column, n, x);
-    while j < n {
-        if column[j] == x {
-            return Found::At(j);
-        }
-        j += 1;
-    }
-    Found::Nothing
+    search::find_from(&column[..n], 0, x)
 }
 
-// Puts x among the starts.
-pub fn put_start(column: &mut Starts, at: usize, x: u16)
-    requires { at < stored_polynomials }
-    ensures { column.new ≡ set column.old at x }
+// Lowers the starts from the j-th up to the n-th by fall.
+fn lower(column: &mut Starts, j: usize, n: usize, fall: u16)
+    requires { (j ≤ n) × (n ≤ length column.old) × ((k : ℕ) → j ≤ k → k < n → fall ≤ get_or column.old k 0) }
+    ensures { Lowered column.old j n fall column.new }
 {
-    column[at] = x;
-}
-
-// Puts x among the counts.
-pub fn put_count(column: &mut Counts, at: usize, x: u8)
-    requires { at < stored_polynomials }
-    ensures { column.new ≡ set column.old at x }
-{
-    column[at] = x;
-}
-
-// Puts x among the indices.
-pub fn put_index(column: &mut Indices, at: usize, x: u32)
-    requires { at < stored_polynomials }
-    ensures { column.new ≡ set column.old at x }
-{
-    column[at] = x;
-}
-
-// Takes the j-th of the first n starts out and gives it: those behind it move one place down, each lowered by fall.
-// The length is asked for because a proof does not see it through a reference.
-pub fn close_starts(column: &mut Starts, j: usize, n: usize, fall: u16) -> u16
-    requires { (length column.old ≡ stored_polynomials) × Closable column.old j n fall }
-    ensures { (result ≡ get_or column.old j 0) × Closed column.old j n fall column.new }
-{
-    let gone = column[j];
-    let mut k = j;
-    while k + 1 < n {
-        column[k] = column[k + 1] - fall;
-        k += 1;
-    }
-    gone
-}
-
-// Takes the j-th of the first n counts out and gives it: those behind it move one place down.
-pub fn close_counts(column: &mut Counts, j: usize, n: usize) -> u8
-    requires { (length column.old ≡ stored_polynomials) × (j < n) × (n ≤ stored_polynomials) }
-    ensures { (result ≡ get_or column.old j 0) × Closed column.old j n 0 column.new }
-{
-    let gone = column[j];
-    let mut k = j;
-    while k + 1 < n {
-        column[k] = column[k + 1];
-        k += 1;
-    }
-    gone
-}
-
-// Takes the j-th of the first n indices out: those behind it move one place down.
-pub fn close_indices(column: &mut Indices, j: usize, n: usize)
-    requires { (length column.old ≡ stored_polynomials) × (j < n) × (n ≤ stored_polynomials) }
-    ensures { Closed column.old j n 0 column.new }
-{
-    let mut k = j;
-    while k + 1 < n {
-        column[k] = column[k + 1];
-        k += 1;
+    for k in j..n {
+        column[k] -= fall;
     }
 }
 
-// Moves the words from at + len up to used down to at.
-pub fn close_gap(pool: &mut [u64], at: usize, len: usize, used: usize)
-    requires { (at + len ≤ used) × (used ≤ length pool.old) }
-    ensures { pool.new ≡ paste pool.old at (drop (at + len) pool.old) (used - (at + len)) }
+// Moves those behind at + len, up to used, down to at.
+fn close_gap<T: Copy>(run: &mut [T], at: usize, len: usize, used: usize)
+    requires { (at + len ≤ used) × (used ≤ length run.old) }
+    ensures moved { run.new ≡ copy_within run.old (at + len) used at }
+    ensures by_index { Shifted run.old at len used run.new }
 {
-    let from = at + len;
-    let size = used - from;
-    let mut i = 0;
-    while i < size {
-        pool[at + i] = pool[from + i];
-        i += 1;
-    }
+    run.copy_within(at + len..used, at);
 }

@@ -55,7 +55,7 @@ one_front n s r q f g v w e =
     ∙ ap₂ ◌++◌ (one_run n r q (v.same ∙ sym w.same) f g e) (v.after ∙ sym w.after)
     ∙ take-append-drop (n * term_words) q
 
--- ---- `append_times`, `append_times_within`
+-- ---- `append_times`
 pub one_appended : (out n m : ℕ) (p : Poly) (s r q : List ℕ) → Words r → Words q → Appended out n m p s r → Appended out n m p s q → r ≡ q
 one_appended out n m p s r q f g x y =
     one_within (out + n * term_words) (out + (n + m) * term_words) s r q (omega arith) x.within y.within

@@ -6,7 +6,7 @@ use native.Mathlib.Omega.{arith}
 use native.Mathlib.Nat.{suc-add, not-suc-le-zero, le_of_suc-le-suc}
 use native.Mathlib.Numerals.{add-one}
 use lib.ListN.{length, take, drop, get_or, set}
-use lib.Seq.{drop-cons, take-take, take_at, drop_at, get_or-take, get_or-drop, drop-drop, take_all, paste, take-paste, drop-paste, set_split}
+use lib.Seq.{drop-cons, take-take, take_at, drop_at, get_or-take, get_or_at, drop-drop, paste, set_split}
 use Rattle.ground.proofs.Lists.{take_fewer, drop_more, drop_take}
 use Rattle.limits.specs.Limits.{set_words, term_words}
 use Rattle.algebra.specs.Polynomial.{Term, Poly}
@@ -30,19 +30,9 @@ unfolding term_of
 term_part s = rw (take-take set_words term_words s (omega arith), get_or-take term_words s set_words 0 (omega arith))
 
 -- a term from its set and its coefficient
-pub term_made : (z a : List ℕ) (c : ℕ) → length z ≡ term_words → length a ≡ set_words → get_or z set_words 0 ≡ c
-    → term_of (paste z 0 a set_words) ≡ record { set = number_of a; coef = c }
+pub term_made : (a : List ℕ) (c : ℕ) → length a ≡ set_words → term_of (a ++ (c ∷ [])) ≡ record { set = number_of a; coef = c }
 unfolding term_of
-term_made z a c hz ha e = λ i. record { set = es i; coef = ec i }
-  where
-    es : number_of (take set_words (paste z 0 a set_words)) ≡ number_of a
-    es = ap number_of (take-paste z 0 a set_words (omega arith) (omega arith) ∙ take_all set_words a (omega arith))
-
-    ec : get_or (paste z 0 a set_words) set_words 0 ≡ c
-    ec =
-        let x : drop set_words (paste z 0 a set_words) ≡ drop set_words z = drop-paste z 0 a set_words (omega arith) (omega arith) in
-        let y : (l : List ℕ) → get_or (drop set_words l) 0 0 ≡ get_or l set_words 0 = λ l. get_or-drop set_words l 0 0 in
-        sym (y (paste z 0 a set_words)) ∙ ap (λ (l : List ℕ). get_or l 0 0) x ∙ y z ∙ e
+term_made a c h = rw (take_at a (c ∷ []) set_words h, get_or_at a c [] 0 set_words h)
 
 pub decode_at : (n i : ℕ) (s : List ℕ) → i < n → get_or (decode n s) i none ≡ term_of (part (i * term_words) term_words s)
 unfolding decode

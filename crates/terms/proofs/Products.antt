@@ -1,15 +1,15 @@
 -- Products of a term with a run, appended one by one. Assumes nothing.
-use mathlib.Core.Path.{◌≡◌, refl, sym, ap, ap₂, subst, ◌∙◌}
+use mathlib.Core.Path.{◌≡◌, refl, sym, ap, ap₂, ◌∙◌}
 use mathlib.Core.List.{List, [], ◌∷◌, ◌++◌, append-nil, append_assoc}
 use Prim.Native.Nat.{ℕ, ◌+◌, ◌*◌, ◌%◌, ◌^◌, ◌≤◌}
 use native.Mathlib.Omega.{arith}
 use lib.Bits.{bit_or}
-use lib.ListN.{length, get_or, take, drop}
-use lib.Seq.{drop-drop, paste}
+use lib.ListN.{length, get_or, drop}
+use lib.Seq.{paste}
 use Rattle.limits.specs.Limits.{set_words, term_words}
 use Rattle.algebra.specs.Polynomial.{Term, Poly, times}
 use Rattle.words.specs.Parts.{part}
-use Rattle.words.proofs.Parts.{within_refl, within_trans, within_wider, above_kept}
+use Rattle.words.proofs.Parts.{within_refl, within_trans, within_wider}
 use Rattle.terms.specs.Terms.{term_of, decode, rounded, product_of, Appended}
 use Rattle.terms.proofs.Decode.{decode_last, behind_within, decode_behind}
 
@@ -54,12 +54,3 @@ appended_more out n i w t b s x u v r l ew a eu lv ev er = record {
 
     more : rounded (times t (decode (i + 1) b)) ≡ rounded (times t (decode i b)) ++ (product_of t (term_of u) ∷ [])
     more = ap (λ (p : Poly). rounded (times t p)) (decode_last i b ∙ ap (λ (y : List ℕ). decode i b ++ (term_of y ∷ [])) (sym eu)) ∙ times_snoc t (decode i b) (term_of u)
-
--- the next term of a run that stands beyond the products
-pub appended_source : (out n i at : ℕ) (q : Poly) (s x u : List ℕ) → Appended out n i q s x → out + (n + i) * term_words ≤ at
-    → u ≡ part (at + i * term_words) term_words x → u ≡ part (i * term_words) term_words (drop at s)
-appended_source out n i at q s x u a h eu =
-    eu ∙ above_kept (out + n * term_words) (out + (n + i) * term_words) s x a.within (at + i * term_words) term_words (omega arith) ∙ ap (take term_words) (sym (drop-drop (i * term_words) at s))
-
-pub appended_end : (out n i m : ℕ) (t : Term) (b s x : List ℕ) → i ≡ m → Appended out n i (rounded (times t (decode i b))) s x → Appended out n m (rounded (times t (decode m b))) s x
-appended_end out n i m t b s x e a = subst (λ (k : ℕ). Appended out n k (rounded (times t (decode k b))) s x) e a

@@ -1,69 +1,93 @@
 -- Two runs compared term by term, and the variables of a run gathered term by term. Assumes nothing.
 use mathlib.Core.Path.{◌≡◌, refl, sym, ap, ap₂, subst, ◌∙◌}
 use mathlib.Core.Bool.{Bool, true, false, ◌&&◌}
-use mathlib.Core.List.{List, [], ◌∷◌}
-use Prim.Native.Nat.{ℕ, suc, ◌+◌, ◌-◌, ◌*◌, ◌≤◌, ◌<◌}
+use mathlib.Core.List.{List, [], ◌∷◌, ◌++◌}
+use Prim.Native.Nat.{ℕ, zero, suc, ◌+◌, ◌-◌, ◌*◌, ◌<◌}
 use native.Mathlib.Omega.{arith}
 use lib.Bits.{bit_or, or_zero_r}
 use lib.Dec.{eqb}
-use lib.ListN.{length, get_or, drop, drop_of_length-le}
+use lib.ListN.{length, get_or, drop}
 use borrow.Author.Tests.{eqb-true, eq-eqb}
+use Rattle.std.specs.Str.{bytes_eq}
+use Rattle.std.proofs.lemmas.Slice.Eq.{bytes_eq-Decides}
+use Rattle.std.specs.Bool.{MatchBool}
+use Rattle.std.specs.List.{range_with_len, AllWithin, HoldsAt}
+use Rattle.std.proofs.lemmas.List.FromFn.{length-range_with_len, get_or-range_with_len}
+use Rattle.std.proofs.Common.{add-one}
+use Rattle.words.specs.Words.{number_of}
+use Rattle.words.proofs.Laws.{Words, number_inj}
+use Rattle.algebra.proofs.Bit.{equal_true}
 use Rattle.ground.proofs.Tests.{bool_ext}
-use Rattle.limits.specs.Limits.{set_words, term_words}
-use Rattle.algebra.specs.Polynomial.{Poly, equal, vars}
+use Rattle.limits.specs.Limits.{term_words}
+use Rattle.algebra.specs.Polynomial.{Term, Poly, equal, vars}
 use Rattle.algebra.proofs.Unions.{vars_append}
 use Rattle.words.specs.Parts.{part}
 use Rattle.words.proofs.Parts.{part_rest}
-use Rattle.terms.specs.Terms.{term_of, decode}
-use Rattle.terms.proofs.Decode.{decode_length, decode_rest, decode_last}
+use Rattle.terms.specs.Terms.{term_of, none, decode}
+use Rattle.terms.proofs.Decode.{decode_length, decode_at, decode_last}
 
--- ---- one set and one coefficient
-module _ (t u : List ℕ) (b : Bool) (e : b ≡ eqb (term_of t).set (term_of u).set) where
-  pub term_apart : b ≡ false → false ≡ (eqb (term_of t).set (term_of u).set && eqb (term_of t).coef (term_of u).coef)
-  term_apart f = ap (λ (x : Bool). x && eqb (term_of t).coef (term_of u).coef) (sym (sym e ∙ f))
+-- ---- two sets, and two runs, by their words
+pub sets_alike : (a b : List ℕ) → length a ≡ length b → Words a → Words b → bytes_eq a b ≡ eqb (number_of a) (number_of b)
+sets_alike a b l f g =
+    let d = bytes_eq-Decides a b in
+    bool_ext (bytes_eq a b) (eqb (number_of a) (number_of b)) (λ e. eq-eqb _ _ (ap number_of (d.0 e)))
+    (λ e. d.1 (number_inj a b l f g (eqb-true _ _ e)))
 
-  pub term_alike : b ≡ true → eqb (get_or t set_words 0) (get_or u set_words 0) ≡ (eqb (term_of t).set (term_of u).set && eqb (term_of t).coef (term_of u).coef)
-  unfolding term_of
-  term_alike f = ap (λ (x : Bool). x && eqb (term_of t).coef (term_of u).coef) (sym (sym e ∙ f))
-
--- ---- two runs
-unequal : (p q : Poly) → (length p ≡ length q → ⊥) → false ≡ equal p q
+equal_itself : (p : Poly) → equal p p ≡ true
 unfolding equal
-unequal [] [] h = absurd (h refl)
-unequal [] (t ∷ q) h = refl
-unequal (s ∷ p) [] h = refl
-unequal (s ∷ p) (t ∷ q) h = last (eqb s.set t.set) (eqb s.coef t.coef) (unequal p q (λ e. h (ap suc e)))
-  where
-    last : (x y : Bool) {z : Bool} → false ≡ z → false ≡ (x && y && z)
-    last true true e = e
-    last true false e = refl
-    last false y e = refl
+equal_itself [] = refl
+equal_itself (t ∷ p) = rw (eq-eqb t.set t.set refl, eq-eqb t.coef t.coef refl) (equal_itself p)
 
-pub run_longer : (m n : ℕ) (a b : List ℕ) → (m ≡ n → ⊥) → false ≡ equal (decode m a) (decode n b)
-run_longer m n a b h = unequal (decode m a) (decode n b) (λ e. h (sym (decode_length m a) ∙ e ∙ decode_length n b))
+pub runs_longer : (m n : ℕ) (a b : List ℕ) → (m ≡ n → ⊥) → eqb m n ≡ equal (decode m a) (decode n b)
+runs_longer m n a b h =
+    bool_ext (eqb m n) (equal (decode m a) (decode n b)) (λ e. absurd (h (eqb-true m n e)))
+    (λ e. absurd (h (sym (decode_length m a) ∙ ap length (equal_true _ _ e) ∙ decode_length n b)))
 
--- both runs from their i-th terms on, t and u, where o tells whether these are the same
-module _ (n i : ℕ) (a b : List ℕ) (h : i < n) (t u : List ℕ) (o : Bool) (et : t ≡ part (i * term_words) term_words a) (eu : u ≡ part (i * term_words) term_words b)
-    (eo : o ≡ (eqb (term_of t).set (term_of u).set && eqb (term_of t).coef (term_of u).coef)) where
-  step : equal (drop i (decode n a)) (drop i (decode n b)) ≡ (o && equal (drop (i + 1) (decode n a)) (drop (i + 1) (decode n b)))
-  unfolding equal
-  step = ap₂ equal (decode_rest n i a t h et) (decode_rest n i b u h eu)
-      ∙ ap (λ (x : Bool). x && equal (drop (i + 1) (decode n a)) (drop (i + 1) (decode n b))) (sym eo)
+-- whether the i-th terms are the same
+abbrev pub terms_alike : List ℕ → List ℕ → ℕ → Bool
+terms_alike a b i =
+    let t = term_of (part (i * term_words) term_words a) in
+    let u = term_of (part (i * term_words) term_words b) in
+    eqb t.set u.set && eqb t.coef u.coef
 
-  module _ (m : ℕ) (e : m ≡ n) (inv : equal (decode m a) (decode n b) ≡ equal (drop i (decode m a)) (drop i (decode n b))) where
-    here : equal (decode m a) (decode n b) ≡ (o && equal (drop (i + 1) (decode m a)) (drop (i + 1) (decode n b)))
-    here = inv ∙ subst (λ (k : ℕ). equal (drop i (decode k a)) (drop i (decode n b)) ≡ (o && equal (drop (i + 1) (decode k a)) (drop (i + 1) (decode n b)))) (sym e) step
-
-    pub run_apart : o ≡ false → false ≡ equal (decode m a) (decode n b)
-    run_apart f = sym (here ∙ ap (λ (x : Bool). x && equal (drop (i + 1) (decode m a)) (drop (i + 1) (decode n b))) f)
-
-    pub run_more : o ≡ true → equal (decode m a) (decode n b) ≡ equal (drop (i + 1) (decode m a)) (drop (i + 1) (decode n b))
-    run_more f = here ∙ ap (λ (x : Bool). x && equal (drop (i + 1) (decode m a)) (drop (i + 1) (decode n b))) f
-
-pub run_end : (m n i : ℕ) (a b : List ℕ) → m ≡ n → m ≤ i → equal (decode m a) (decode n b) ≡ equal (drop i (decode m a)) (drop i (decode n b)) → true ≡ equal (decode m a) (decode n b)
+term_true : (t u : Term) → (eqb t.set u.set && eqb t.coef u.coef) ≡ true → t ≡ u
 unfolding equal
-run_end m n i a b e h inv =
-    sym (inv ∙ ap₂ equal (drop_of_length-le (decode m a) {i = i} (omega (arith, decode_length m a))) (drop_of_length-le (decode n b) {i = i} (omega (arith, decode_length n b))))
+term_true t u e = let l : (t ∷ []) ≡ (u ∷ []) = equal_true (t ∷ []) (u ∷ []) (rw e) in cc
+
+module _ (a b : List ℕ) where
+  all_alike : (n : ℕ) → ((i : ℕ) → i < n → terms_alike a b i ≡ true) → decode n a ≡ decode n b
+  unfolding decode
+  all_alike zero h = refl
+  all_alike (suc n) h =
+      subst (λ (k : ℕ). decode k a ≡ decode k b) (add-one n)
+      (decode_last n a
+      ∙ ap₂ (λ (p : Poly) (t : Term). p ++ (t ∷ [])) (all_alike n (λ i l. h i (omega arith))) (term_true _ _ (h n (omega arith)))
+      ∙ sym (decode_last n b))
+
+  one_alike : (n i : ℕ) → i < n → decode n a ≡ decode n b → terms_alike a b i ≡ true
+  one_alike n i h e =
+      let t : term_of (part (i * term_words) term_words a) ≡ term_of (part (i * term_words) term_words b)
+      = sym (decode_at n i a h) ∙ ap (λ (p : Poly). get_or p i none) e ∙ decode_at n i b h in
+      rw (eq-eqb _ _ (ap (λ (x : Term). x.set) t), eq-eqb _ _ (ap (λ (x : Term). x.coef) t))
+
+  place : (m i : ℕ) → i < m → get_or (range_with_len 0 m) i 0 ≡ i
+  place m i h = omega (arith, get_or-range_with_len 0 m i 0 h)
+
+  -- two runs of one length, where r tells whether all terms are alike
+  pub runs_told : (m n : ℕ) → m ≡ n → (r : Bool)
+      → MatchBool r (AllWithin (λ i. terms_alike a b i ≡ true) (range_with_len 0 m) 0 (length (range_with_len 0 m)))
+      ((k : ℕ) × (k < length (range_with_len 0 m)) × HoldsAt (λ i. terms_alike a b i ≡ false) (range_with_len 0 m) k)
+      → r ≡ equal (decode m a) (decode n b)
+  runs_told m n e true h =
+      let same : decode n a ≡ decode n b
+      = all_alike n (λ i l. subst (λ (x : ℕ). terms_alike a b x ≡ true) (place m i (omega arith)) (h i 0 (omega arith) (omega (arith, length-range_with_len 0 m)))) in
+      rw (e, same) (sym (equal_itself (decode n b)))
+  runs_told m n e false h =
+      let k : h.0 < m = omega (arith, h.1, length-range_with_len 0 m) in
+      let other : terms_alike a b h.0 ≡ false = subst (λ (x : ℕ). terms_alike a b x ≡ false) (place m h.0 k) (h.2 0) in
+      rw e
+      (bool_ext false (equal (decode n a) (decode n b)) (λ d. absurd (let z : false ≡ true = d in cc))
+      (λ d. sym other ∙ one_alike n h.0 (omega arith) (equal_true _ _ d)))
 
 -- which run comes first does not matter
 pub equal_swap : (p q : Poly) → equal p q ≡ equal q p

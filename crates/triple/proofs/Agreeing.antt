@@ -8,9 +8,12 @@ use native.Mathlib.Omega.{arith}
 use lib.Dec.{leb}
 use lib.ListN.{length}
 use borrow.Author.Tests.{le-ltb, lt-leb, not-false}
+use Rattle.std.specs.Prelude.{Result, Ok, Err}
 use Rattle.ground.specs.Lists.{any}
 use Rattle.ground.proofs.Tests.{split, cond_no, or_cases, or_none_left, or_none_right}
 use Rattle.limits.specs.Limits.{name_bytes}
+use Rattle.limits.specs.Refusals.{number_of}
+use Rattle.limits.specs.declared.refusal.Refusal.{Refusal}
 use Rattle.limits.specs.Verdicts.{ACCEPTED, LONGLINE, FORM, NUMBER, TERMS, NAMES}
 use Rattle.paper.specs.Grammar.{Bytes, got, stuck}
 use Rattle.paper.specs.Statement.{Statement, renamed, fields, numbers_in_range, too_many_terms}
@@ -21,16 +24,22 @@ use Rattle.paper.specs.Named.{names_in, is_plain, plain_number, same_name, with_
 use Rattle.paper.proofs.Names.{never, same_name_law, is_in}
 use Rattle.paper.proofs.PlainSpelled.{plain_variable, plain_short}
 use Rattle.paper.proofs.Renamed.{numbers_same, index_same, many_same}
-use Rattle.names.specs.Names.{held, number_by, bad_by, names_with}
+use Rattle.names.specs.declared.numbering.Numbering.{Numbering}
+use Rattle.names.specs.Names.{number_by, bad_by, names_with}
+use Rattle.names.specs.Numbered.{held_by}
 use Rattle.named.specs.Reads.{NamesAre, number_in}
 use Rattle.named.proofs.Naming.{Alike, any_alike, numbers_with, bad_with, statement_alike}
 use Rattle.steps.specs.declared.said.Said.{Said}
-use Rattle.steps.specs.declared.said.Said.TheVariants.{Refused}
 use Rattle.steps.specs.Items.{Means, Tells, long as tellsLong, stops as tellsStop, turns as tellsTurn, passes as tellsPass, ItemIs, index_of_read}
-use Rattle.steps.proofs.Asking.{NoRefusal}
 use Rattle.steps.proofs.Judging.{early_none}
 use Rattle.published.specs.Statements.{unnumbered, written_by, NamedTells, long, stops, turns, passes, NamedItemIs}
 use Rattle.published.specs.declared.statement.StatementRead.{StatementRead}
+
+same_refusal : {v w : Refusal} → ◌≡◌ {A = Result Said Refusal} (Err v) (Err w) → v ≡ w
+same_refusal e = cc
+
+pub not_both : {r : Result Said Refusal} {said : Said} {why : Refusal} → r ≡ Ok said → r ≡ Err why → ⊥
+not_both e q = cc
 
 -- ---- a plain name is not bad
 plain_fine : (n : Name) → is_plain n ≡ true → bad_name plain_number n ≡ false
@@ -84,24 +93,24 @@ unfolding written_by first
 written_number bad st e = rw e refl
 
 -- ---- a statement whose names were read, where G are all names
-module _ {plain : Bool} {n : ℕ} (st : Named) {room room' : Bytes} {names : ℕ} {bad : Bool} (post G : List Name) (all : AllNames plain (held n room) (names_in st) post G)
-    (a : NamesAre plain n (names_in st) room room' names bad) where
-  module _ (clean : plain ≡ true → bad ≡ false) where
-    bad_by_all : any (bad_name (number_by plain G)) (names_in st) ≡ bad
-    bad_by_all = any_bad_agrees plain (held n room) (names_in st) post G all (λ p. sym a.some ∙ clean p) ∙ sym a.some
+module _ (st : Named) {m m' : Numbering} {bad : Bool} (post G : List Name) (all : AllNames m.plain (held_by m) (names_in st) post G)
+    (a : NamesAre m m' (names_in st) bad) where
+  module _ (clean : m.plain ≡ true → bad ≡ false) where
+    bad_by_all : any (bad_name (number_by m.plain G)) (names_in st) ≡ bad
+    bad_by_all = any_bad_agrees m.plain (held_by m) (names_in st) post G all (λ p. sym a.some ∙ clean p) ∙ sym a.some
 
-    written_by_all : first (named_rules (number_by plain G) st) ≡ written_by bad st
+    written_by_all : first (named_rules (number_by m.plain G) st) ≡ written_by bad st
     unfolding named_rules written_by first
     written_by_all =
-        ap₂ (λ (m b : Bool). cond (not (numbers_in_range (renamed unnumbered st))) NUMBER (cond m TERMS (cond b NAMES ACCEPTED))) (many_same (number_by plain G) unnumbered st) bad_by_all
+        ap₂ (λ (m b : Bool). cond (not (numbers_in_range (renamed unnumbered st))) NUMBER (cond m TERMS (cond b NAMES ACCEPTED))) (many_same (number_by m.plain G) unnumbered st) bad_by_all
 
-    ranged_by_all : written_by bad st ≡ ACCEPTED → numbers_in_range (renamed (number_by plain G) st) ≡ true
-    ranged_by_all w = let h = written_accepted bad st w in numbers_same (number_by plain G) st (bad_by_all ∙ h.1) ∙ h.0
+    ranged_by_all : written_by bad st ≡ ACCEPTED → numbers_in_range (renamed (number_by m.plain G) st) ≡ true
+    ranged_by_all w = let h = written_accepted bad st w in numbers_same (number_by m.plain G) st (bad_by_all ∙ h.1) ∙ h.0
 
-  renamed_by_all : bad ≡ false → renamed (number_in plain names room') st ≡ renamed (number_by plain G) st
+  renamed_by_all : bad ≡ false → renamed (number_in m') st ≡ renamed (number_by m.plain G) st
   renamed_by_all e =
-      ap (λ (ms : List Name). renamed (number_by plain ms) st) (a.holds e)
-      ∙ sym (statement_alike (number_by plain G) (number_by plain (names_with plain (held n room) (names_in st))) st (number_agrees plain (held n room) (names_in st) post G all))
+      ap₂ (λ (p : Bool) (ms : List Name). renamed (number_by p ms) st) a.plain (a.holds e)
+      ∙ sym (statement_alike (number_by m.plain G) (number_by m.plain (names_with m.plain (held_by m) (names_in st))) st (number_agrees m.plain (held_by m) (names_in st) post G all))
 
 -- ---- an item that was read, with numbers by f
 module _ (f : Name → ℕ) (i : NamedItem) where
@@ -118,37 +127,34 @@ module _ (f : Name → ℕ) (i : NamedItem) where
   numbered_written st t e = rw e refl
 
 -- ---- what was read of an item is what the item says with its numbers
-module _ {k : ℕ} {store : Store} {plain : Bool} {n : ℕ} {i : NamedItem} {room room' : Bytes} {words : List ℕ} {r : StatementRead} (h : NamedTells k store plain n i room room' words r)
-    (clean : plain ≡ true → r.bad ≡ false) (post G : List Name)
-    (all : (st : Named) (t : Bytes) → i.long ≡ false → i.reads ≡ got st t → AllNames plain (held n room) (names_in st) post G) where
-  item_written : (st : Named) (t : Bytes) → i.long ≡ false → i.reads ≡ got st t → NamesAre plain n (names_in st) room room' r.names r.bad
-      → (numbered (number_by plain G) i).written ≡ written_by r.bad st
-  item_written st t l e a = numbered_written (number_by plain G) i st t e ∙ written_by_all st post G (all st t l e) a clean
+module _ {k : ℕ} {store : Store} {m m' : Numbering} {i : NamedItem} {words : List ℕ} {r : StatementRead} (h : NamedTells k store m m' i words r)
+    (clean : m.plain ≡ true → r.bad ≡ false) (post G : List Name)
+    (all : (st : Named) (t : Bytes) → i.long ≡ false → i.reads ≡ got st t → AllNames m.plain (held_by m) (names_in st) post G) where
+  item_written : (st : Named) (t : Bytes) → i.long ≡ false → i.reads ≡ got st t → NamesAre m m' (names_in st) r.bad
+      → (numbered (number_by m.plain G) i).written ≡ written_by r.bad st
+  item_written st t l e a = numbered_written (number_by m.plain G) i st t e ∙ written_by_all st post G (all st t l e) a clean
 
-  item_tells : Tells k store (numbered (number_by plain G) i) words r.sum r.said
+  item_tells : Tells k store (numbered (number_by m.plain G) i) words r.said
   unfolding numbered
   item_tells = go h
     where
-      go : NamedTells k store plain n i room room' words r → Tells k store (numbered (number_by plain G) i) words r.sum r.said
+      go : NamedTells k store m m' i words r → Tells k store (numbered (number_by m.plain G) i) words r.said
       go (long l q b) = tellsLong l q
-      go (stops l t e q b) = tellsStop l t (numbered_stuck (number_by plain G) i t e) q
-      go (turns l st t e a q d j) =
-          let w = item_written st t l e a in
-          tellsTurn l (renamed (number_by plain G) st) t (numbered_got (number_by plain G) i st t e) (q ∙ ap (λ (v : ℕ). Refused v) (sym w)) (λ z. d (sym w ∙ z))
-      go (passes l st t e a w m j) =
+      go (stops l t e q b) = tellsStop l t (numbered_stuck (number_by m.plain G) i t e) q
+      go (turns l st t e a why q d j) = tellsTurn l (renamed (number_by m.plain G) st) t (numbered_got (number_by m.plain G) i st t e) why q (d ∙ sym (item_written st t l e a))
+      go (passes l st t e a w said q o j) =
           let g = all st t l e in
-          tellsPass l (renamed (number_by plain G) st) t (numbered_got (number_by plain G) i st t e) (item_written st t l e a ∙ w) (ranged_by_all st post G g a clean w)
-          (subst (λ (x : Statement). Means k store words r.sum x r.said) (renamed_by_all st post G g a (written_accepted r.bad st w).1) m)
+          tellsPass l (renamed (number_by m.plain G) st) t (numbered_got (number_by m.plain G) i st t e) (item_written st t l e a ∙ w) (ranged_by_all st post G g a clean w) said q
+          (subst (λ (x : Statement). Means k store words x said) (renamed_by_all st post G g a (written_accepted r.bad st w).1) o)
 
-pub named_item : {k : ℕ} {store : Store} {plain : Bool} {n : ℕ} {i : NamedItem} {room room' : Bytes} {words words' : List ℕ} {r : StatementRead}
-    → NamedItemIs k store plain n i room room' words words' r → (plain ≡ true → r.bad ≡ false) → (post G : List Name)
-    → ((st : Named) (t : Bytes) → i.long ≡ false → i.reads ≡ got st t → AllNames plain (held n room) (names_in st) post G)
-    → ItemIs k store (numbered (number_by plain G) i) words words' (record { said = r.said; sum = r.sum })
+pub named_item : {k : ℕ} {store : Store} {m m' : Numbering} {i : NamedItem} {words words' : List ℕ} {r : StatementRead}
+    → NamedItemIs k store m m' i words words' r → (m.plain ≡ true → r.bad ≡ false) → (post G : List Name)
+    → ((st : Named) (t : Bytes) → i.long ≡ false → i.reads ≡ got st t → AllNames m.plain (held_by m) (names_in st) post G)
+    → ItemIs k store (numbered (number_by m.plain G) i) words words' r.said
 named_item h clean post G all = record { tells = item_tells h.tells clean post G all; kept = h.kept }
 
 -- ---- the index that a refusal reports does not hang on the numbers
-module _ {k : ℕ} {store : Store} {plain : Bool} {n : ℕ} {i : NamedItem} {room room' : Bytes} {words : List ℕ} {r : StatementRead} (f : Name → ℕ)
-    (h : NamedTells k store plain n i room room' words r) where
+module _ {k : ℕ} {store : Store} {m m' : Numbering} {i : NamedItem} {words : List ℕ} {r : StatementRead} (f : Name → ℕ) (h : NamedTells k store m m' i words r) where
   abbrev Reports : ℕ → Type 0
   Reports v = index_of_read v (numbered f i).reads ≡ cond (leb TERMS v) r.index 0
 
@@ -161,29 +167,29 @@ module _ {k : ℕ} {store : Store} {plain : Bool} {n : ℕ} {i : NamedItem} {roo
       ∙ ap (λ (x : ℕ). cond (leb TERMS v) x 0) (index_same f unnumbered st ∙ sym j)
 
   -- one that reading refuses
-  pub refused_index : {v : ℕ} → r.said ≡ Refused v → Reports v
-  refused_index {v} e = go h
+  pub refused_index : (why : Refusal) → r.said ≡ Err why → Reports (number_of why)
+  refused_index why e = go h
     where
-      of : {w : ℕ} → r.said ≡ Refused w → Reports w → Reports v
-      of {w} q g = subst Reports (let y : Refused w ≡ Refused v = sym q ∙ e in let z : w ≡ v = cc in z) g
+      of : {w : Refusal} → r.said ≡ Err w → Reports (number_of w) → Reports (number_of why)
+      of {w} q g = subst (λ (x : Refusal). Reports (number_of x)) (same_refusal (sym q ∙ e)) g
 
       by_written : (bad : Bool) (st : Named) (t : Bytes) → i.reads ≡ got st t → (numbers_in_range (renamed unnumbered st) ≡ true → r.index ≡ index_of (renamed unnumbered st)) → Reports (written_by bad st)
       by_written bad st t q j =
           ⊎_elim (λ y. read_index st t q (j y) (written_by bad st)) (λ y. subst Reports (sym (written_number bad st y)) (early_index NUMBER (omega arith)))
           (split (numbers_in_range (renamed unnumbered st)))
 
-      go : NamedTells k store plain n i room room' words r → Reports v
+      go : NamedTells k store m m' i words r → Reports (number_of why)
       go (long l q b) = of q (early_index LONGLINE (omega arith))
       go (stops l t s q b) = of q (early_index FORM (omega arith))
-      go (turns l st t s a q d j) = of q (by_written r.bad st t s j)
-      go (passes l st t s a w m j) = absurd (subst (Means k store words r.sum (renamed (number_in plain r.names room') st)) e m)
+      go (turns l st t s a w q d j) = of q (subst Reports (sym d) (by_written r.bad st t s j))
+      go (passes l st t s a w said q o j) = absurd (not_both q e)
 
   -- one that is stepped
-  pub stepped_index : {y : Said} → r.said ≡ y → NoRefusal y → (v : ℕ) → Reports v
-  stepped_index e s v = go h
+  pub stepped_index : {said : Said} → r.said ≡ Ok said → (v : ℕ) → Reports v
+  stepped_index e v = go h
     where
-      go : NamedTells k store plain n i room room' words r → Reports v
-      go (long l q b) = absurd (subst NoRefusal (sym e ∙ q) s)
-      go (stops l t f q b) = absurd (subst NoRefusal (sym e ∙ q) s)
-      go (turns l st t f a q d j) = absurd (subst NoRefusal (sym e ∙ q) s)
-      go (passes l st t q a w m j) = read_index st t q j v
+      go : NamedTells k store m m' i words r → Reports v
+      go (long l q b) = absurd (not_both e q)
+      go (stops l t f q b) = absurd (not_both e q)
+      go (turns l st t f a w q d j) = absurd (not_both e q)
+      go (passes l st t q a w said y o j) = read_index st t q j v

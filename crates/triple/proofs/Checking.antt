@@ -2,10 +2,10 @@
 use mathlib.Core.Path.{◌≡◌, refl, sym, ap, ◌∙◌}
 use mathlib.Core.Bool.{Bool, true, false, not, cond}
 use mathlib.Core.List.{List}
-use Prim.Native.Nat.{ℕ, ◌+◌, ◌≤◌, ◌<◌}
+use Prim.Native.Nat.{ℕ, ◌+◌, ◌≤◌}
 use lib.Dec.{leb, ltb}
 use lib.ListN.{length, replicate}
-use borrow.Author.Tests.{lt-ltb, le-ltb, ltb-false, not-true}
+use borrow.Author.Tests.{le-ltb, not-true}
 use Rattle.ground.proofs.Tests.{and_left, by_cond}
 use Rattle.limits.specs.Limits.{text_bytes, least_pool, least_scratch}
 use Rattle.limits.specs.Verdicts.{SHORT, LONGTEXT, NUMBER, NAMES}
@@ -17,12 +17,8 @@ use Rattle.paper.specs.Named.{Texts, published_answer}
 use Rattle.paper.proofs.Verdicts.{early, late, texts_late}
 use Rattle.checker.specs.declared.answer.Answer.{Answer}
 use Rattle.checker.specs.Checked.{answer_of}
-use Rattle.checker.proofs.Checking.{unread_kept, room_zeroed}
+use Rattle.checker.proofs.Checking.{unread_kept, room_zeroed, TooShort, short_rooms}
 use Rattle.triple.specs.Triple.{answer_in, CheckedTexts}
-
--- ---- three lengths
-pub within_bytes : (a b c : ℕ) → ltb text_bytes (a + b + c) ≡ false → a + b + c ≤ text_bytes
-within_bytes a b c e = ltb-false text_bytes (a + b + c) e
 
 -- ---- the whole
 abbrev too_many_bytes : Texts → Bool
@@ -44,13 +40,9 @@ module _ {k : ℕ} {t : Texts} {pool scratch : List ℕ} {a : Answer} where
   texts_unread : (v : ℕ) → early v ≡ true → published_answer k t (length pool) (length scratch) ≡ unread v → answer_of a ≡ unread v → CheckedTexts k t pool scratch a pool scratch
   texts_unread v h e q = record { answer = q ∙ sym e; pool_after = unread_kept a v pool h q; scratch_after = unread_kept a v scratch h q }
 
-  pub texts_pool : length pool < least_pool → answer_of a ≡ unread SHORT → CheckedTexts k t pool scratch a pool scratch
+  pub texts_short : TooShort (length pool) (length scratch) → answer_of a ≡ unread SHORT → CheckedTexts k t pool scratch a pool scratch
   unfolding published_answer
-  texts_pool h = texts_unread SHORT refl (rw (lt-ltb (length pool) least_pool h) refl)
-
-  pub texts_scratch : least_pool ≤ length pool → length scratch < least_scratch → answer_of a ≡ unread SHORT → CheckedTexts k t pool scratch a pool scratch
-  unfolding published_answer
-  texts_scratch g h = texts_unread SHORT refl (rw (le-ltb (length pool) least_pool g, lt-ltb (length scratch) least_scratch h) refl)
+  texts_short h = texts_unread SHORT refl (rw (short_rooms h) refl)
 
   module _ (g : least_pool ≤ length pool) (h : least_scratch ≤ length scratch) where
     pub texts_long : too_many_bytes t ≡ true → answer_of a ≡ unread LONGTEXT → CheckedTexts k t pool scratch a pool scratch

@@ -7,5 +7,4 @@ pub mod Plainly
 pub mod Underway
 pub mod Passing
 pub mod Checking
-pub mod TooLong
 pub mod Decided

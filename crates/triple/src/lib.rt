@@ -2,117 +2,86 @@
 
 #![tactic(auto)]
 
-ghost use Rattle.std.specs.Prelude.{◌≡◌, true, cond, ◌+◌, ◌*◌, ◌≤◌, ltb, length};
-ghost use Rattle.limits.specs.Limits.{text_bytes, variables, most_pool_terms, term_words, least_scratch};
+ghost use Rattle.std.specs.Prelude.{◌≡◌, true, cond, ◌+◌, ltb};
 ghost use Rattle.paper.specs.Statement.{modulo, is_ring};
 ghost use Rattle.limits.specs.Verdicts.{NUMBER};
 ghost use Rattle.paper.specs.Answer as paper;
-ghost use Rattle.names.specs.Names.{slot_bytes, hint_count};
-ghost use Rattle.checker.specs.Checked.{answer_of};
-ghost use Rattle.triple.specs.Triple.{answer_in, AnsweredIfPlain, CheckedTexts};
+ghost use Rattle.checker.specs.Checked.{answer_of, Rooms};
+ghost use Rattle.triple.specs.Triple.{texts_of, answer_in, AnsweredIfPlain, CheckedTexts};
 
-pub mod course;
-pub mod pass;
+mod course;
+mod pass;
 mod plain;
+mod texts;
 
 use checker::answer::{Answer, unread};
 use checker::capacity;
+use names::numbering::Numbering;
 use pass::pass;
 use plain::every_plain;
+use texts::Texts;
 
 // Whether three texts of these lengths have more than `most` bytes together.
 pub fn too_long(most: usize, constraints: usize, target: usize, proof: usize) -> bool
     ensures { result ≡ ltb most (constraints + target + proof) }
 {
-    if most < constraints {
+    let Some(left) = most.checked_sub(constraints) else {
         return true;
-    }
-    let left = most - constraints;
-    if left < target {
+    };
+    let Some(left) = left.checked_sub(target) else {
         return true;
-    }
-    left - target < proof
+    };
+    left < proof
 }
 
 // The answer of three texts where a is the answer if every name is plain. If not, names are numbered by place.
 fn judged_again(
     a: Answer,
     k: u32,
-    constraints: &[u8],
-    target: &[u8],
-    proof: &[u8],
-    room: &mut [u8],
-    hints: &mut [u16],
+    texts: &Texts<'_>,
+    names: &mut Numbering<'_>,
     pool: &mut [u64],
     scratch: &mut [u64],
     capacity: usize,
 ) -> Answer
-    requires { (is_ring (modulo k) ≡ true) × (length constraints.now + length target.now + length proof.now ≤ text_bytes)
-        × (variables * slot_bytes ≤ length room.old) × (hint_count ≤ length hints.old)
-        × (capacity * term_words ≤ length pool.old) × (capacity ≤ most_pool_terms) × (least_scratch ≤ length scratch.old) }
-    ensures { AnsweredIfPlain capacity k (record { constraints = constraints.now; target = target.now; proof = proof.now }) a → answer_of result ≡ answer_in capacity k (record { constraints = constraints.now; target = target.now; proof = proof.now }) }
+    requires { (is_ring (modulo k) ≡ true) × (names.old.plain ≡ true) × Rooms capacity pool.old scratch.old }
+    ensures { AnsweredIfPlain capacity k (texts_of texts.now) a → answer_of result ≡ answer_in capacity k (texts_of texts.now) }
 {
-    if every_plain(constraints, target, proof, room, hints, pool, scratch) {
+    if every_plain(texts, names, pool, scratch) {
         return a;
     }
-    let b = pass(
-        false,
-        k,
-        constraints,
-        target,
-        proof,
-        room,
-        hints,
-        pool,
-        scratch,
-        capacity,
-    );
-    b.answer
+    // By place now, and none is held yet.
+    names.plain = false;
+    names.names = 0;
+    match pass(k, texts, names, pool, scratch, capacity) {
+        Ok(b) => b,
+        Err(b) => b,
+    }
 }
 
 // The answer of three texts. Names are taken as plain first: where nothing is refused then they are.
 fn judged(
     k: u32,
-    constraints: &[u8],
-    target: &[u8],
-    proof: &[u8],
+    texts: &Texts<'_>,
     pool: &mut [u64],
     scratch: &mut [u64],
     capacity: usize,
 ) -> Answer
-    requires { (is_ring (modulo k) ≡ true) × (length constraints.now + length target.now + length proof.now ≤ text_bytes)
-        × (capacity * term_words ≤ length pool.old) × (capacity ≤ most_pool_terms) × (least_scratch ≤ length scratch.old) }
-    ensures { answer_of result ≡ answer_in capacity k (record { constraints = constraints.now; target = target.now; proof = proof.now }) }
+    requires { (is_ring (modulo k) ≡ true) × Rooms capacity pool.old scratch.old }
+    ensures { answer_of result ≡ answer_in capacity k (texts_of texts.now) }
 {
     let mut room = [0u8; names::ROOM];
     let mut hints = [0u16; names::HINTS];
-    let a = pass(
-        true,
-        k,
-        constraints,
-        target,
-        proof,
-        &mut room,
-        &mut hints,
-        pool,
-        scratch,
-        capacity,
-    );
-    if !a.refused {
-        return a.answer;
+    let mut names = Numbering {
+        plain: true,
+        names: 0,
+        room: &mut room,
+        hints: &mut hints,
+    };
+    match pass(k, texts, &mut names, pool, scratch, capacity) {
+        Ok(a) => a,
+        Err(a) => judged_again(a, k, texts, &mut names, pool, scratch, capacity),
     }
-    judged_again(
-        a.answer,
-        k,
-        constraints,
-        target,
-        proof,
-        &mut room,
-        &mut hints,
-        pool,
-        scratch,
-        capacity,
-    )
 }
 
 // The answer of three texts with numbers modulo 2 ^ k. Pool and scratch are zero afterwards, or untouched where one is too small or the texts are
@@ -127,10 +96,7 @@ pub fn check(
 ) -> Answer
     ensures { CheckedTexts k (record { constraints = constraints.now; target = target.now; proof = proof.now }) pool.old scratch.old result pool.new scratch.new }
 {
-    if pool.len() < limits::LEAST_POOL {
-        return unread(limits::SHORT);
-    }
-    if scratch.len() < limits::LEAST_SCRATCH {
+    if pool.len() < limits::LEAST_POOL || scratch.len() < limits::LEAST_SCRATCH {
         return unread(limits::SHORT);
     }
     if too_long(
@@ -141,8 +107,13 @@ pub fn check(
     ) {
         return unread(limits::LONGTEXT);
     }
+    let texts = Texts {
+        constraints,
+        target,
+        proof,
+    };
     let room = capacity(pool.len());
-    let a = in_ring(k, constraints, target, proof, pool, scratch, room);
+    let a = in_ring(k, &texts, pool, scratch, room);
     words::zero(pool);
     words::zero(scratch);
     a
@@ -151,30 +122,16 @@ pub fn check(
 // The answer of three texts, or that k is out of range.
 fn in_ring(
     k: u64,
-    constraints: &[u8],
-    target: &[u8],
-    proof: &[u8],
+    texts: &Texts<'_>,
     pool: &mut [u64],
     scratch: &mut [u64],
     capacity: usize,
 ) -> Answer
-    requires { (length constraints.now + length target.now + length proof.now ≤ text_bytes)
-        × (capacity * term_words ≤ length pool.old) × (capacity ≤ most_pool_terms) × (least_scratch ≤ length scratch.old) }
-    ensures { answer_of result ≡ cond (is_ring (modulo k)) (answer_in capacity k (record { constraints = constraints.now; target = target.now; proof = proof.now })) (paper.unread NUMBER) }
+    requires { Rooms capacity pool.old scratch.old }
+    ensures { answer_of result ≡ cond (is_ring (modulo k)) (answer_in capacity k (texts_of texts.now)) (paper.unread NUMBER) }
 {
-    if k < 1 {
+    if k < 1 || limits::GREATEST_RING < k {
         return unread(limits::NUMBER);
     }
-    if limits::GREATEST_RING < k {
-        return unread(limits::NUMBER);
-    }
-    judged(
-        k as u32,
-        constraints,
-        target,
-        proof,
-        pool,
-        scratch,
-        capacity,
-    )
+    judged(k as u32, texts, pool, scratch, capacity)
 }

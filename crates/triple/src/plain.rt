@@ -1,115 +1,86 @@
 // Whether every name of three texts is plain: their statements are read for their names alone.
-ghost use Rattle.std.specs.Prelude.{◌≡◌, cond, List, ◌++◌, ◌*◌, ◌≤◌, length};
-ghost use Rattle.limits.specs.Limits.{text_bytes, variables, least_scratch};
+ghost use Rattle.std.specs.Prelude.{◌≡◌, true, List, ◌++◌, ◌≤◌, length};
+ghost use Rattle.limits.specs.Limits.{text_bytes, least_scratch};
 ghost use Rattle.paper.specs.Published.{pieces, NamedItem};
 ghost use Rattle.paper.specs.Named.{named_items};
-ghost use Rattle.names.specs.Names.{slot_bytes, hint_count};
 ghost use Rattle.published.specs.Statements.{items_of};
-ghost use Rattle.triple.specs.Courses.{all_plain, unreadable};
+ghost use Rattle.triple.specs.Courses.{all_plain, known_or, unreadable};
+ghost use Rattle.triple.specs.Triple.{texts_of};
 
 use super::course::{begin_at, kind_behind};
+use super::texts::Texts;
+use limits::refusal::Refusal;
+use names::numbering::Numbering;
 use published::statement::{CONSTRAINT, STEP, TARGET, read_statement};
 use reader::find::find_byte;
 use steps::said::Said;
 use steps::state::State;
-
-// Open: all statements of a text can be read and have plain names, so that those behind them decide. Else whether names are plain is known.
-#[derive(Drop)]
-struct Plainness {
-    open: bool,
-    plain: bool,
-}
+use table::stored::Stored;
 
 // Whether a statement can't be read.
-fn is_unreadable(said: Said) -> bool
-    ensures { result ≡ unreadable said }
+fn is_unreadable(said: &Result<Said, Refusal>) -> bool
+    ensures { result ≡ unreadable said.now }
 {
-    match said {
-        Said::Ring(_) => false,
-        Said::Input(_, _) => false,
-        Said::Goal(_) => false,
-        Said::Lin(_, _) => false,
-        Said::Del(_) => false,
-        Said::Ext(_, _, _) => false,
-        Said::Refused(why) => (why == limits::LONGLINE) | (why == limits::FORM),
-    }
+    matches!(said, Err(Refusal::LongLine | Refusal::Form))
 }
 
-// The names of one text, whose first statement is of this kind.
+// Whether names are plain, if one text, whose first statement is of this kind, settles it: by a name that isn't, or a statement that can't
+// be read. Else the statements behind it do.
 fn plain_text(
     kind: u8,
     text: &[u8],
-    room: &mut [u8],
-    hints: &mut [u16],
+    names: &mut Numbering<'_>,
     pool: &[u64],
     scratch: &mut [u64],
-) -> Plainness
-    requires { (length text.now ≤ text_bytes) × (variables * slot_bytes ≤ length room.old) × (hint_count ≤ length hints.old)
-        × (least_scratch ≤ length scratch.old) }
-    ensures { (rest : List NamedItem) → all_plain (items_of kind (pieces text.now) ++ rest) ≡ cond result.open (all_plain rest) result.plain }
+) -> Option<bool>
+    requires { (length text.now ≤ text_bytes) × (names.old.plain ≡ true) × (least_scratch ≤ length scratch.old) }
+    ensures known { (rest : List NamedItem) → all_plain (items_of kind (pieces text.now) ++ rest) ≡ known_or (all_plain rest) result }
+    ensures plain { names.new.plain ≡ true }
 {
-    let s = State::new();
+    let state = State::new();
+    let stored = Stored {
+        table: &state.table,
+        pool,
+        ring: state.ring,
+    };
     let mut next = kind;
     let mut at = begin_at(text, 0);
     while at < text.len() {
         let e = find_byte(text, at, b';');
-        let line = read_statement(
-            next,
-            &s.table.indices,
-            &s.table.starts,
-            &s.table.counts,
-            s.table.stored,
-            pool,
-            s.ring,
-            true,
-            room,
-            hints,
-            0,
-            &text[at..e],
-            e < text.len(),
-            scratch,
-        );
-        let said = line.said;
-        if line.bad | is_unreadable(said) {
-            return Plainness {
-                open: false,
-                plain: !line.bad,
-            };
+        let read = read_statement(next, &stored, names, &text[at..e], e < text.len(), scratch);
+        if read.bad {
+            return Some(false);
+        }
+        if is_unreadable(&read.said) {
+            return Some(true);
         }
         at = begin_at(text, e + 1);
         next = kind_behind(next);
     }
-    Plainness {
-        open: true,
-        plain: true,
-    }
+    None
 }
 
 // The names of three texts; without a target the proof is not read.
 pub(crate) fn every_plain(
-    constraints: &[u8],
-    target: &[u8],
-    proof: &[u8],
-    room: &mut [u8],
-    hints: &mut [u16],
+    texts: &Texts<'_>,
+    names: &mut Numbering<'_>,
     pool: &[u64],
     scratch: &mut [u64],
 ) -> bool
-    requires { (length constraints.now ≤ text_bytes) × (length target.now ≤ text_bytes) × (length proof.now ≤ text_bytes)
-        × (variables * slot_bytes ≤ length room.old) × (hint_count ≤ length hints.old) × (least_scratch ≤ length scratch.old) }
-    ensures { result ≡ all_plain (named_items (record { constraints = constraints.now; target = target.now; proof = proof.now })) }
+    requires { (names.old.plain ≡ true) × (least_scratch ≤ length scratch.old) }
+    ensures { result ≡ all_plain (named_items (texts_of texts.now)) }
 {
-    let a = plain_text(CONSTRAINT, constraints, room, hints, pool, scratch);
-    if !a.open {
-        return a.plain;
+    if let Some(known) = plain_text(CONSTRAINT, texts.constraints, names, pool, scratch) {
+        return known;
     }
-    let b = plain_text(TARGET, target, room, hints, pool, scratch);
-    if !b.open {
-        return b.plain;
+    if let Some(known) = plain_text(TARGET, texts.target, names, pool, scratch) {
+        return known;
     }
-    if begin_at(target, 0) == target.len() {
+    if begin_at(texts.target, 0) == texts.target.len() {
         return true;
     }
-    let c = plain_text(STEP, proof, room, hints, pool, scratch);
-    c.open | c.plain
+    match plain_text(STEP, texts.proof, names, pool, scratch) {
+        Some(known) => known,
+        None => true,
+    }
 }

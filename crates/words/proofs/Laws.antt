@@ -7,12 +7,13 @@ use lib.Count.{ones, ones_step, ones-le, count_trailing_zeros, under}
 use lib.Pow.{high, low, field, mod-mod-pow}
 use lib.Seq.{take-nil}
 use borrow.Author.Tests.{eqb-false}
-use Rattle.ground.proofs.Tests.{split, by_cond}
+use Rattle.ground.proofs.Tests.{split}
 use Rattle.algebra.specs.Polynomial.{bit, members}
 use Rattle.algebra.proofs.Sets.{bit_zero, bit_suc, bit_of_zero}
 use Rattle.words.specs.Words.{number_of, order_of, Lowest}
-use Rattle.words.specs.declared.Order.{Order}
-use Rattle.words.specs.declared.Order.TheVariants.{Less, Equal, Greater}
+use Rattle.std.specs.Ordering.{MatchOrdering}
+use Rattle.std.specs.declared.cmp.Ordering.{Ordering}
+use Rattle.std.specs.declared.cmp.Ordering.TheVariants.{Less, Equal, Greater}
 
 -- each is below 2 ^ 64
 abbrev pub Words : List ℕ → Type 0
@@ -67,24 +68,10 @@ number_take_lt ws i f l =
     subst (λ (n : ℕ). number_of (take i ws) < 2 ^ (64 * n)) (length-take-le i ws l) (number_lt (take i ws) (words_take i ws f))
 
 -- ---- order
--- what an order says of two numbers
-abbrev pub Ordered : Order → ℕ → ℕ → Type 0
-Ordered Less m n = m < n
-Ordered Equal m n = m ≡ n
-Ordered Greater m n = n < m
-
-pub is_order : (o : Order) (m n : ℕ) → Ordered o m n → o ≡ order_of m n
-unfolding order_of
+pub is_order : (o : Ordering) (m n : ℕ) → MatchOrdering o (m < n) (m ≡ n) (n < m) → o ≡ order_of m n
 is_order Less m n h = rw (lt-ltb m n h)
 is_order Equal m n h = rw (le-ltb m n (omega arith), eq-eqb m n h)
 is_order Greater m n h = rw (le-ltb m n (omega arith), ne_eqb m n (λ e. omega arith))
-
-pub order_says : (o : Order) (m n : ℕ) → o ≡ order_of m n → Ordered o m n
-unfolding order_of
-order_says o m n e =
-    subst (λ (p : Order). Ordered p m n) (sym e)
-    (by_cond (λ (p : Order). Ordered p m n) (ltb m n) (ltb-true m n)
-    (λ l. by_cond (λ (p : Order). Ordered p m n) (eqb m n) (eqb-true m n) (λ d. omega (arith, ltb-false m n l, eqb-false m n d))))
 
 -- the highest words that differ decide
 pub number_less : (n : ℕ) (us ws : List ℕ) → length us ≡ length ws → Words us → n < length us

@@ -1,5 +1,5 @@
 pub mod Parts
-pub mod Eight
+pub mod Found
 pub mod Wrap
 pub mod Laws
 pub mod WordByWord

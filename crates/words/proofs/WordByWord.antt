@@ -1,14 +1,17 @@
 -- Sets word by word: what `union`, `with`, `has`, `compare` and `count` do at one word, said of the whole number.
 -- Assumes nothing.
-use Rattle.std.proofs.Common.{◌≡◌, ℕ, zero, suc, ◌+◌, ◌*◌, ◌/◌, ◌%◌, ◌^◌, ◌<◌, ◌≤◌, eqb, List, [], ◌∷◌, length, get_or, take, drop, set, sym, ap, ◌∙◌, subst, ap₂, le_of_suc-le-suc, not-suc-le-zero, add-zero, mod-lt, mul_assoc, add_comm, one-mul, add-one, arith, drop_of_length-le, take_all, drop-cons, pow_pos, pow-add, shl_exact}
+use Rattle.std.proofs.Common.{◌≡◌, ℕ, zero, suc, ◌+◌, ◌*◌, ◌/◌, ◌%◌, ◌^◌, ◌<◌, ◌≤◌, eqb, List, [], ◌∷◌, length, get_or, take, drop, set, sym, ap, ◌∙◌, subst, ap₂, le_of_suc-le-suc, not-suc-le-zero, add-zero, mod-lt, mul_assoc, one-mul, add-one, arith, drop_of_length-le, drop-cons, pow_pos, pow-add, shl_exact}
 use lib.Bits.{bit_and, bit_or, and_mask, or_block, or_lt, or_zero_l, or_zero_r, or_shifted, or_comm}
 use lib.Count.{ones, ones_cat, ones-le}
+use Rattle.std.specs.List.{sum_by}
+use Rattle.std.proofs.lemmas.Cmp.{ranked}
+use Rattle.std.proofs.lemmas.List.Sums.{sum_by-cons}
 use Rattle.algebra.specs.Polynomial.{bit, has, members}
 use Rattle.algebra.proofs.Sets.{bit_or_law, bit_ext}
 use Rattle.words.specs.Words.{number_of, order_of}
-use Rattle.words.specs.declared.Order.{Order}
-use Rattle.words.specs.declared.Order.TheVariants.{Less, Equal, Greater}
-use Rattle.words.proofs.Laws.{Words, words_set, pow_words, number_lt, number_take, number_take_lt, is_order, order_says, number_less, number_bit, length_members}
+use Rattle.std.specs.declared.cmp.Ordering.{Ordering}
+use Rattle.std.specs.declared.cmp.Ordering.TheVariants.{Less, Equal, Greater}
+use Rattle.words.proofs.Laws.{Words, words_set, pow_words, number_lt, number_take, number_take_lt, is_order, number_less, number_bit, length_members}
 
 -- ---- union
 or_left_comm : (a b c : ℕ) → bit_or a (bit_or b c) ≡ bit_or b (bit_or a c)
@@ -48,10 +51,6 @@ union_more us m ws i f g hu hw e =
     ∙ ap (bit_or m) (or_shifted (get_or ws i 0) (64 * i) (number_of (take i ws)) (number_take_lt ws i g (omega arith))
     ∙ sym (number_take ws i) ∙ ap (λ (n : ℕ). number_of (take n ws)) (sym (add-one i)))
 
-pub union_end : (us : List ℕ) (m : ℕ) (ws : List ℕ) (i : ℕ) → length ws ≤ i
-    → number_of us ≡ bit_or m (number_of (take i ws)) → number_of us ≡ bit_or m (number_of ws)
-union_end us m ws i h e = e ∙ ap (λ (x : List ℕ). bit_or m (number_of x)) (take_all i ws h)
-
 -- variable v, as a shift gives it, united with its word
 pub number_with : (ws : List ℕ) (v : ℕ) → Words ws → v / 64 < length ws
     → number_of (set ws (v / 64) (bit_or (get_or ws (v / 64) 0) ((1 * 2 ^ (v % 64)) % 2 ^ 64))) ≡ bit_or (2 ^ v) (number_of ws)
@@ -68,47 +67,35 @@ unfolding has bit
 number_has ws v f = ap (λ (x : ℕ). eqb x 1) (and_mask (get_or ws (v / 64) 0 / 2 ^ (v % 64)) 1 ∙ sym (number_bit ws v f))
 
 -- ---- order
+-- two sets of as many words
+pub record Sets (us ws : List ℕ) : Type 0 where
+  pub same : length us ≡ length ws
+  pub left : Words us
+  pub right : Words ws
+
 -- from the highest word down: the words above i are equal, and word i comes next
-module _ (us ws : List ℕ) (l : length us ≡ length ws) where
-  pub order_start : (n : ℕ) → length us ≤ n → drop n us ≡ drop n ws
-  order_start n h = drop_of_length-le us {i = n} h ∙ sym (drop_of_length-le ws {i = n} (omega arith))
+module _ {us ws : List ℕ} (a : Sets us ws) (i : ℕ) (inside : i < length us) (above : drop (suc i) us ≡ drop (suc i) ws) where
+  pub order_next : get_or us i 0 ≡ get_or ws i 0 → drop i us ≡ drop i ws
+  order_next e = drop-cons us i 0 inside ∙ ap₂ ◌∷◌ e above ∙ sym (drop-cons ws i 0 (omega (arith, a.same)))
 
-  module _ (i : ℕ) (above : drop (suc i) us ≡ drop (suc i) ws) (inside : i < length us) where
-    pub order_next : get_or us i 0 ≡ get_or ws i 0 → drop i us ≡ drop i ws
-    order_next e = drop-cons us i 0 inside ∙ ap₂ ◌∷◌ e above ∙ sym (drop-cons ws i 0 (omega arith))
-
-    -- it decides, where it differs
-    pub order_decides : Words us → Words ws → (get_or us i 0 ≡ get_or ws i 0 → ⊥) → (r : Order) → r ≡ order_of (get_or us i 0) (get_or ws i 0)
-        → r ≡ order_of (number_of us) (number_of ws)
-    order_decides f g differ Less e = is_order Less _ _ (number_less i us ws l f inside above (order_says Less _ _ e))
-    order_decides f g differ Equal e = absurd (differ (order_says Equal _ _ e))
-    order_decides f g differ Greater e =
-        is_order Greater _ _ (number_less i ws us (sym l) g (omega arith) (sym above) (order_says Greater _ _ e))
-
-  pub order_end : drop 0 us ≡ drop 0 ws → Equal ≡ order_of (number_of us) (number_of ws)
-  order_end e = is_order Equal _ _ (ap number_of e)
+  -- it decides, where it differs
+  pub order_decides : (get_or us i 0 ≡ get_or ws i 0 → ⊥) → (r : Ordering) → r ≡ order_of (get_or us i 0) (get_or ws i 0)
+      → r ≡ order_of (number_of us) (number_of ws)
+  order_decides differ Less e = is_order Less _ _ (number_less i us ws a.same a.left inside above (ranked _ _ Less e))
+  order_decides differ Equal e = absurd (differ (ranked _ _ Equal e))
+  order_decides differ Greater e =
+      is_order Greater _ _ (number_less i ws us (sym a.same) a.right (omega (arith, a.same)) (sym above) (ranked _ _ Greater e))
 
 -- ---- count
--- the variables of the lowest words, word by word
-pub count_start : (ws : List ℕ) → 0 ≡ ones (number_of (take 0 ws))
+pub ones_words : (ws : List ℕ) → Words ws → sum_by ones ws ≡ ones (number_of ws)
 unfolding number_of
-count_start ws = omega (arith, ones-le 0 0 (omega arith))
+ones_words [] f = sym (let e : ones 0 ≡ 0 = omega (arith, ones-le 0 0 (omega arith)) in e)
+ones_words (w ∷ ws) f =
+    omega (arith, sum_by-cons ones w ws, ones_words ws (λ i. f (suc i)), ones_cat 64 (number_of ws) w (f 0).fits)
 
-pub count_more : (ws : List ℕ) (i : ℕ) → Words ws → i < length ws
-    → ones (number_of (take i ws)) + ones (get_or ws i 0) ≡ ones (number_of (take (i + 1) ws))
-count_more ws i f h =
-    add_comm (ones (number_of (take i ws))) (ones (get_or ws i 0))
-    ∙ sym (ones_cat (64 * i) (get_or ws i 0) (number_of (take i ws)) (number_take_lt ws i f (omega arith)))
-    ∙ ap ones (sym (number_take ws i)) ∙ ap (λ (n : ℕ). ones (number_of (take n ws))) (sym (add-one i))
+pub ones_fit : (ws : List ℕ) → Words ws → sum_by ones ws ≤ 64 * length ws
+ones_fit ws f = omega (arith, ones_words ws f, ones-le (64 * length ws) (number_of ws) (number_lt ws f))
 
-pub count_word : (ws : List ℕ) (i : ℕ) → Words ws → ones (get_or ws i 0) ≤ 64
-count_word ws i f = ones-le 64 (get_or ws i 0) (f i).fits
-
-pub count_le : (ws : List ℕ) (i : ℕ) → Words ws → i ≤ length ws → ones (number_of (take i ws)) ≤ 64 * i
-count_le ws i f h = ones-le (64 * i) (number_of (take i ws)) (number_take_lt ws i f h)
-
-pub count_end : (ws : List ℕ) (i n v : ℕ) → Words ws → length ws ≤ i → n ≡ 64 * length ws
-    → ones (number_of (take i ws)) ≡ length (members n v (number_of ws))
-count_end ws i n v f h e =
-    ap (λ (x : List ℕ). ones (number_of x)) (take_all i ws h)
-    ∙ sym (length_members n v (number_of ws) (subst (λ (x : ℕ). number_of ws < 2 ^ x) (sym e) (number_lt ws f)))
+pub ones_members : (ws : List ℕ) (n v : ℕ) → Words ws → n ≡ 64 * length ws → sum_by ones ws ≡ length (members n v (number_of ws))
+ones_members ws n v f e =
+    ones_words ws f ∙ sym (length_members n v (number_of ws) (subst (λ (x : ℕ). number_of ws < 2 ^ x) (sym e) (number_lt ws f)))

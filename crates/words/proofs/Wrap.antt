@@ -1,6 +1,6 @@
 -- What is left modulo 2 ^ k, for k up to 64, of a number that was cut to 2 ^ 64; the product of two words by halves.
 -- Assumes nothing.
-use Rattle.std.proofs.Common.{◌≡◌, ℕ, ◌+◌, ◌-◌, ◌*◌, ◌/◌, ◌%◌, ◌^◌, ◌<◌, ◌≤◌, sym, ap, ◌∙◌, subst, ap₂, lt_of_le_of_lt, le_of_lt, mul_assoc, mul_comm, add-mul, mul-le-mul_left, mul-lt-mul_of_pos_right, div-add-mod', mul-add, arith, pow_pos, pow-add}
+use Rattle.std.proofs.Common.{◌≡◌, ℕ, ◌+◌, ◌-◌, ◌*◌, ◌/◌, ◌%◌, ◌^◌, ◌≤◌, sym, ap, ◌∙◌, subst, ap₂, mul_assoc, mul_comm, add-mul, div-add-mod', mul-add, arith, pow_pos, pow-add}
 use native.Mathlib.Nat.{mul-mod_left, mul-add-mod_self_right, zero-mod}
 use lib.Bits.{bit_and, and_mask}
 use lib.Pow.{mod-mod-pow, ones_split, ones_lt, high}
@@ -51,9 +51,6 @@ module _ (k : ℕ) (h : k ≤ 64) where
           ∙ high (2 ^ k - 1) (64 - k) (ones_lt (64 - k))
 
 -- ---- the product by halves
-pub halves_fit : {a b : ℕ} → a < 2 ^ 32 → b < 2 ^ 32 → a * b < 2 ^ 64
-halves_fit {a} {b} ha hb = lt_of_le_of_lt (mul-le-mul_left a (le_of_lt hb)) (mul-lt-mul_of_pos_right {k = 2 ^ 32} ha (pow_pos 32))
-
 by_low : (c b : ℕ) → c * b ≡ c * (b / 2 ^ 32) * 2 ^ 32 + c * (b % 2 ^ 32)
 by_low c b = ap (λ (x : ℕ). c * x) (sym (div-add-mod' b (2 ^ 32))) ∙ rw (mul-add, ← mul_assoc)
 

@@ -1,2 +1,3 @@
 pub mod Words
 pub mod Parts
+pub mod Search

@@ -2,20 +2,19 @@
 
 #![tactic(auto)]
 
-ghost use Rattle.std.specs.Prelude.{◌≡◌, ℕ, ◌+◌, ◌-◌, ◌*◌, ◌%◌, ◌^◌, ◌<◌, ◌≤◌, length, replicate, ◌≢◌, bit_or};
+pub mod ring;
+
+ghost use Rattle.std.specs.Prelude.{◌≡◌, ℕ, ◌+◌, ◌-◌, ◌*◌, ◌%◌, ◌^◌, ◌<◌, ◌≤◌, length, replicate, bit_or};
 ghost use Rattle.limits.specs.Limits.{variables};
 ghost use Rattle.algebra.specs.Polynomial.{has, members};
 ghost use Rattle.words.specs.Words.{number_of, order_of, Lowest};
 
+use std::cmp::Ordering;
+
+pub mod search;
+
 // A set of variables, its lowest word first.
 pub type Set = [u64; limits::SET_WORDS];
-
-#[derive(Drop)]
-pub enum Order {
-    Less,
-    Equal,
-    Greater,
-}
 
 // ---- coefficients
 
@@ -29,23 +28,15 @@ pub fn times(a: u64, b: u64) -> u64
     let low = a0 * b0;
     let left = (a >> 32) * b0;
     let right = a0 * (b >> 32);
-    let cross = std::num::wrapping_add_u64(left, right);
-    std::num::wrapping_add_u64(low, cross << 32)
-}
-
-// The number modulo 2 ^ k: its lowest k digits.
-pub fn cut(c: u64, k: u32) -> u64
-    requires { (1 ≤ k) × (k ≤ 64) }
-    ensures { result ≡ c % 2 ^ k }
-{
-    c & (u64::MAX >> (64 - k))
+    let cross = left.wrapping_add(right);
+    low.wrapping_add(cross << 32)
 }
 
 // What is added to c to give 0 modulo 2 ^ 64.
 pub fn negative(c: u64) -> u64
     ensures { result ≡ (2 ^ 64 - c) % 2 ^ 64 }
 {
-    std::num::wrapping_sub_u64(0, c)
+    0u64.wrapping_sub(c)
 }
 
 // ---- sets
@@ -55,10 +46,8 @@ pub fn union(a: Set, b: Set) -> Set
     ensures { number_of result ≡ bit_or (number_of a) (number_of b) }
 {
     let mut r = a;
-    let mut i = 0;
-    while i < limits::SET_WORDS {
+    for i in 0..limits::SET_WORDS {
         r[i] |= b[i];
-        i += 1;
     }
     r
 }
@@ -82,49 +71,32 @@ pub fn with(a: Set, v: usize) -> Set
 }
 
 // The order of two sets as numbers, which are written in words: the highest words that differ decide.
-pub fn compare(a: Set, b: Set) -> Order
+pub fn compare(a: Set, b: Set) -> Ordering
     ensures { result ≡ order_of (number_of a) (number_of b) }
 {
     if a[4] != b[4] {
-        return decide(a[4], b[4]);
+        return a[4].cmp(&b[4]);
     }
     if a[3] != b[3] {
-        return decide(a[3], b[3]);
+        return a[3].cmp(&b[3]);
     }
     if a[2] != b[2] {
-        return decide(a[2], b[2]);
+        return a[2].cmp(&b[2]);
     }
     if a[1] != b[1] {
-        return decide(a[1], b[1]);
+        return a[1].cmp(&b[1]);
     }
     if a[0] != b[0] {
-        return decide(a[0], b[0]);
+        return a[0].cmp(&b[0]);
     }
-    Order::Equal
-}
-
-// The order of two words that differ.
-fn decide(x: u64, y: u64) -> Order
-    requires { x ≢ y }
-    ensures { result ≡ order_of x y }
-{
-    if x < y {
-        return Order::Less;
-    }
-    Order::Greater
+    Ordering::Equal
 }
 
 // How many variables a has.
 pub fn count(a: Set) -> usize
     ensures { result ≡ length (members variables 0 (number_of a)) }
 {
-    let mut n: usize = 0;
-    let mut i = 0;
-    while i < limits::SET_WORDS {
-        n += u64::count_ones(a[i]) as usize;
-        i += 1;
-    }
-    n
+    a.iter().map(|w| w.count_ones() as usize).sum()
 }
 
 // ---- one word of a set
@@ -134,7 +106,7 @@ pub fn lowest(w: u64) -> u32
     requires { 0 < w }
     ensures { Lowest 64 w result }
 {
-    u64::trailing_zeros(w)
+    w.trailing_zeros()
 }
 
 // A word without its lowest variable.
@@ -151,9 +123,5 @@ pub fn without_lowest(w: u64) -> u64
 pub fn zero(room: &mut [u64])
     ensures { room.new ≡ replicate (length room.old) 0 }
 {
-    let mut i = 0;
-    while i < room.len() {
-        room[i] = 0;
-        i += 1;
-    }
+    room.fill(0);
 }

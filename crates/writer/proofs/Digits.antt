@@ -1,10 +1,10 @@
 -- The digits of a word counted by powers of ten, and written from the last to the first. Assumes nothing.
 use mathlib.Core.Path.{◌≡◌, refl, sym, ap, ap₂, ◌∙◌}
 use mathlib.Core.List.{[], ◌∷◌}
-use Prim.Native.Nat.{ℕ, suc, ◌+◌, ◌-◌, ◌*◌, ◌/◌, ◌%◌, ◌^◌, ◌≤◌, ◌<◌}
+use Prim.Native.Nat.{ℕ, ◌+◌, ◌-◌, ◌*◌, ◌/◌, ◌%◌, ◌^◌, ◌≤◌, ◌<◌}
 use Prim.Native.Char.{code}
-use native.Mathlib.Nat.{pow-le-pow_right, pow-suc}
-use native.Mathlib.Numerals.{add-one}
+use Rattle.std.proofs.Common.{⊎_elim, ltb, ltb-true, ltb-false, pow-suc}
+use Rattle.ground.proofs.Tests.{split}
 use native.Mathlib.Omega.{arith}
 use lib.ListN.{length, set, length-append, length-set}
 use Rattle.paper.specs.Grammar.{Bytes}
@@ -16,77 +16,67 @@ use Rattle.writer.proofs.Written.{written_byte, written_later}
 pub word_digits : (n : ℕ) → n < 2 ^ 64 → length (spell_number n) ≤ 20
 word_digits n h = number_most 19 n (omega arith)
 
--- ---- how many there are: limit is 10 ^ digits, and there are as many digits at least
-pub record Counting (n digits limit : ℕ) : Type 0 where
-  pub power : limit ≡ 10 ^ digits
-  pub some : 0 < digits
-  pub few : digits < 20
-  pub least : digits ≤ length (spell_number n)
+-- ---- how many there are
+pub digits_are : (d n : ℕ) → 10 ^ d ≤ n → n < 10 * 10 ^ d → d + 1 ≡ length (spell_number n)
+digits_are d n h k = omega (arith, number_least d n h, number_most d n (omega (arith, pow-suc 10 d)))
 
-pub counting_start : (n : ℕ) → Counting n 1 10
-counting_start n = record { power = refl; some = omega arith; few = omega arith; least = number_some n }
-
-module _ (n digits limit : ℕ) (h : Counting n digits limit) where
-  pub counting_last : n < 2 ^ 64 → limit ≤ n → digits + 1 ≡ 20 → digits + 1 ≡ length (spell_number n)
-  counting_last f l e = omega (arith, word_digits n f, number_least digits n (rw h.power at l))
-
-  pub counting_fits : digits + 1 < 20 → limit * 10 < 2 ^ 64
-  counting_fits l = omega (arith, h.power, pow-le-pow_right {n = 10} (omega arith) {i = digits} {j = 18} (omega arith))
-
-  pub counting_more : limit ≤ n → digits + 1 < 20 → Counting n (digits + 1) (limit * 10)
-  counting_more l f = record {
-    power = ap (λ (x : ℕ). x * 10) h.power ∙ sym (pow-suc 10 digits) ∙ ap (λ (x : ℕ). 10 ^ x) (sym (add-one digits));
-    some = omega arith;
-    few = f;
-    least = omega (arith, number_least digits n (rw h.power at l));
-  }
-
-  pub counting_end : n < limit → digits ≡ length (spell_number n)
-  counting_end l =
-      let e : suc (digits - 1) ≡ digits = omega (arith, h.some) in
-      let m : n < 10 ^ suc (digits - 1) = rw (e, ← h.power) l in
-      omega (arith, number_most (digits - 1) n m, h.least, h.some)
-
--- ---- from the last to the first: e, once left is written from `at` on, is d with n written there; i is the place of left's last digit
+-- ---- from the last to the first
+-- e, once left is written from `at` on, is d with n written there; left's last digit stands before the place i, and none is left at `at`
 pub record Back (d : Bytes) (at n : ℕ) (e : Bytes) (i left : ℕ) : Type 0 where
-  pub bytes : written e at (spell_number left) ≡ written d at (spell_number n)
-  pub place : i + 1 ≡ at + length (spell_number left)
-  pub within : i < length e
+  pub bytes : at < i → written e at (spell_number left) ≡ written d at (spell_number n)
+  pub place : at < i → i ≡ at + length (spell_number left)
+  pub all : i ≤ at → e ≡ written d at (spell_number n)
   pub same : length e ≡ length d
 
-pub back_start : (d : Bytes) (at n m : ℕ) → m ≡ length (spell_number n) → at + length (spell_number n) ≤ length d → Back d at n d (at + m - 1) n
-back_start d at n m e h = record {
-  bytes = refl;
-  place = omega (arith, number_some n);
-  within = omega (arith, number_some n);
+pub back_start : (d : Bytes) (at n m : ℕ) → m ≡ length (spell_number n) → Back d at n d (at + m) n
+back_start d at n m e = record {
+  bytes = λ l. refl;
+  place = λ l. omega arith;
+  all = λ l. absurd (omega (arith, number_some n));
   same = refl;
 }
 
-module _ (d : Bytes) (at n : ℕ) (e : Bytes) (i left : ℕ) (h : Back d at n e i left) where
-  pub back_more : 10 ≤ left → Back d at n (set e i (code "0" + left % 10)) (i - 1) (left / 10)
-  back_more l = record {
-    bytes = ap (λ (x : Bytes). written x at (spell_number (left / 10))) put ∙ written_later e at (spell_number (left / 10)) digit (omega (arith, here, h.within))
-        ∙ ap (written e at) (sym (number_more left l)) ∙ h.bytes;
-    place = omega (arith, long, h.place, number_some (left / 10));
-    within = rw (length-set e i (code "0" + left % 10)) (omega (arith, h.within));
-    same = length-set e i (code "0" + left % 10) ∙ h.same;
+-- the next digit is written
+module _ (d : Bytes) (at n : ℕ) (e : Bytes) (i left : ℕ) (h : Back d at n e i left) (l : at < i) (w : i ≤ length e) where
+  abbrev pub next : Bytes
+  next = set e (i - 1) (code "0" + left % 10)
+
+  long : length next ≡ length d
+  long = length-set e (i - 1) (code "0" + left % 10) ∙ h.same
+
+  -- more are left
+  back_more : 10 ≤ left → Back d at n next (i - 1) (left / 10)
+  back_more m = record {
+    bytes = λ _. ap (λ (x : Bytes). written x at (spell_number (left / 10))) put
+        ∙ written_later e at (spell_number (left / 10)) digit (omega (arith, here))
+        ∙ ap (written e at) (sym (number_more left m)) ∙ h.bytes l;
+    place = λ _. here;
+    all = λ k. absurd (omega (arith, here, number_some (left / 10)));
+    same = long;
   }
     where
       digit : Bytes
       digit = (code "0" + left % 10) ∷ []
 
-      long : length (spell_number left) ≡ length (spell_number (left / 10)) + 1
-      long = ap length (number_more left l) ∙ length-append (spell_number (left / 10)) digit
+      here : i - 1 ≡ at + length (spell_number (left / 10))
+      here = omega (arith, ap length (number_more left m), length-append (spell_number (left / 10)) digit, h.place l)
 
-      here : i ≡ at + length (spell_number (left / 10))
-      here = omega (arith, long, h.place)
+      put : next ≡ written e (at + length (spell_number (left / 10))) digit
+      put = written_byte e (i - 1) (code "0" + left % 10) (omega arith) ∙ ap (λ (x : ℕ). written e x digit) here
 
-      put : set e i (code "0" + left % 10) ≡ written e (at + length (spell_number (left / 10))) digit
-      put = written_byte e i (code "0" + left % 10) h.within ∙ ap (λ (x : ℕ). written e x digit) here
+  -- it was the last
+  back_end : left < 10 → Back d at n next (i - 1) (left / 10)
+  back_end m =
+      let one : length (spell_number left) ≡ 1 = ap length (number_small left m) in
+      let here : i - 1 ≡ at = omega (arith, h.place l) in
+      let f : left % 10 ≡ left = omega arith in
+      record {
+        bytes = λ k. absurd (omega arith);
+        place = λ k. absurd (omega arith);
+        all = λ _. written_byte e (i - 1) (code "0" + left % 10) (omega arith)
+            ∙ ap₂ (λ (x : ℕ) (y : Bytes). written e x y) here (ap (λ (x : ℕ). (code "0" + x) ∷ []) f ∙ sym (number_small left m)) ∙ h.bytes l;
+        same = long;
+      }
 
-  pub back_end : left < 10 → set e i (code "0" + left) ≡ written d at (spell_number n)
-  back_end l =
-      let one : length (spell_number left) ≡ 1 = ap length (number_small left l) in
-      let here : i ≡ at = omega (arith, h.place) in
-      written_byte e i (code "0" + left) h.within
-      ∙ ap₂ (λ (x : ℕ) (w : Bytes). written e x w) here (sym (number_small left l)) ∙ h.bytes
+  pub back_next : Back d at n next (i - 1) (left / 10)
+  back_next = ⊎_elim (λ x. back_end (ltb-true left 10 x)) (λ x. back_more (ltb-false left 10 x)) (split (ltb left 10))

@@ -11,9 +11,7 @@ ghost use Rattle.writer.specs.Writing.{dotted, Cut, room};
 use super::sign::with_sign;
 use terms::Term;
 use words::Set;
-
-// The digits of the greatest word.
-const WORD_DIGITS: usize = 20;
+use words::ring::Ring;
 
 // The bytes of a variable with its dot, at most.
 const VARIABLE_ROOM: usize = 4;
@@ -25,17 +23,10 @@ const TERM_ROOM: usize = 22;
 pub fn number_length(n: u64) -> usize
     ensures { result ≡ length (spell_number n) }
 {
-    let mut digits = 1;
-    let mut limit: u64 = 10;
-    while limit <= n {
-        digits += 1;
-        // The next limit is beyond a word.
-        if digits == WORD_DIGITS {
-            return digits;
-        }
-        limit *= 10;
+    match n.checked_ilog10() {
+        Some(tens) => tens as usize + 1,
+        None => 1,
     }
-    digits
 }
 
 // The bytes of the variables of one word of a set, whose lowest digit is variable first.
@@ -58,20 +49,18 @@ fn set_length(a: Set) -> usize
     ensures { result ≡ length (gather dotted (members variables 0 (number_of a))) }
 {
     let mut sum = 0;
-    let mut i = 0;
-    while i < limits::SET_WORDS {
+    for i in 0..limits::SET_WORDS {
         sum += word_length(a[i], 64 * i as u64);
-        i += 1;
     }
     sum
 }
 
-// The bytes of a coefficient at k.
-pub fn coefficient_length(c: u64, k: u32) -> usize
-    requires { (1 ≤ k) × (k ≤ 64) × (c < 2 ^ k) }
-    ensures { result ≡ length (spell_coefficient k c) }
+// The bytes of a coefficient in a ring.
+pub fn coefficient_length(c: u64, ring: Ring) -> usize
+    requires { c < 2 ^ ring.k }
+    ensures { result ≡ length (spell_coefficient ring.k c) }
 {
-    let s = with_sign(c, k);
+    let s = with_sign(c, ring);
     let digits = number_length(s.magnitude);
     if s.minus {
         return digits + 1;
@@ -79,55 +68,51 @@ pub fn coefficient_length(c: u64, k: u32) -> usize
     digits
 }
 
-// The bytes of a term at k.
-fn term_length(t: Term, k: u32) -> usize
-    requires { (1 ≤ k) × (k ≤ 64) × ((term_of t).coef < 2 ^ k) }
-    ensures { result ≡ length (spell_term k (term_of t)) }
+// The bytes of a term in a ring.
+fn term_length(t: Term, ring: Ring) -> usize
+    requires { (term_of t).coef < 2 ^ ring.k }
+    ensures { result ≡ length (spell_term ring.k (term_of t)) }
 {
-    coefficient_length(t[limits::SET_WORDS], k) + set_length(terms::set_of(t))
+    coefficient_length(t[limits::SET_WORDS], ring) + set_length(terms::set_of(t))
 }
 
-// The bytes of a run of n terms at k.
-pub fn run_length(s: &[u64], n: usize, k: u32) -> usize
-    requires { (1 ≤ k) × (k ≤ 64) × (n ≤ field_terms) × (n * term_words ≤ length s.now) × Cut k (decode n s.now) }
-    ensures { result ≡ length (spell k (decode n s.now)) }
+// The bytes of a run of n terms in a ring.
+pub fn run_length(s: &[u64], n: usize, ring: Ring) -> usize
+    requires { (n ≤ field_terms) × (n * term_words ≤ length s.now) × Cut ring.k (decode n s.now) }
+    ensures { result ≡ length (spell ring.k (decode n s.now)) }
 {
     if n == 0 {
         return 1;
     }
     let t = terms::read_term(s, 0);
-    let mut sum = term_length(t, k);
-    let mut i = 1;
-    while i < n {
+    let mut sum = term_length(t, ring);
+    for i in 1..n {
         let t = terms::read_term(s, i * limits::TERM_WORDS);
-        sum += 1 + term_length(t, k);
-        i += 1;
+        sum += 1 + term_length(t, ring);
     }
     sum
 }
 
-// More bytes than a run of n terms takes at any k, by the ones of its sets.
+// More bytes than a run of n terms takes in any ring, by the ones of its sets.
 fn run_room(s: &[u64], n: usize) -> usize
     requires { (n ≤ field_terms) × (n * term_words ≤ length s.now) }
     ensures { result ≡ room (decode n s.now) }
 {
     let mut sum = 1;
-    let mut i = 0;
-    while i < n {
+    for i in 0..n {
         let t = terms::read_term(s, i * limits::TERM_WORDS);
         sum += TERM_ROOM + VARIABLE_ROOM * words::count(terms::set_of(t));
-        i += 1;
     }
     sum
 }
 
-// Whether a run of n terms at k takes at most size bytes. Where even the room by its ones is there, nothing is measured.
-pub fn run_fits(s: &[u64], n: usize, k: u32, size: usize) -> bool
-    requires { (1 ≤ k) × (k ≤ 64) × (n ≤ field_terms) × (n * term_words ≤ length s.now) × Cut k (decode n s.now) }
-    ensures { result ≡ leb (length (spell k (decode n s.now))) size }
+// Whether a run of n terms in a ring takes at most size bytes. Where even the room by its ones is there, nothing is measured.
+pub fn run_fits(s: &[u64], n: usize, ring: Ring, size: usize) -> bool
+    requires { (n ≤ field_terms) × (n * term_words ≤ length s.now) × Cut ring.k (decode n s.now) }
+    ensures { result ≡ leb (length (spell ring.k (decode n s.now))) size }
 {
     if run_room(s, n) <= size {
         return true;
     }
-    run_length(s, n, k) <= size
+    run_length(s, n, ring) <= size
 }

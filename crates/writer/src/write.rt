@@ -12,6 +12,7 @@ use super::measure::number_length;
 use super::sign::with_sign;
 use terms::Term;
 use words::Set;
+use words::ring::Ring;
 
 // Writes the decimal of a number, its digits from the last to the first.
 pub fn write_number(out: &mut [u8], at: usize, n: u64) -> usize
@@ -19,14 +20,11 @@ pub fn write_number(out: &mut [u8], at: usize, n: u64) -> usize
     ensures { Wrote out.old at (spell_number n) out.new result }
 {
     let end = at + number_length(n);
-    let mut i = end - 1;
     let mut left = n;
-    while 10 <= left {
+    for i in (at..end).rev() {
         out[i] = b'0' + (left % 10) as u8;
         left /= 10;
-        i -= 1;
     }
-    out[i] = b'0' + left as u8;
     end
 }
 
@@ -60,20 +58,18 @@ fn write_set(out: &mut [u8], at: usize, a: Set) -> usize
     ensures { Wrote out.old at (gather dotted (members variables 0 (number_of a))) out.new result }
 {
     let mut end = at;
-    let mut i = 0;
-    while i < limits::SET_WORDS {
+    for i in 0..limits::SET_WORDS {
         end = write_word(out, end, a[i], 64 * i as u64);
-        i += 1;
     }
     end
 }
 
-// Writes a coefficient at k.
-pub fn write_coefficient(out: &mut [u8], at: usize, c: u64, k: u32) -> usize
-    requires { (1 ≤ k) × (k ≤ 64) × (c < 2 ^ k) × (at + length (spell_coefficient k c) ≤ length out.old) }
-    ensures { Wrote out.old at (spell_coefficient k c) out.new result }
+// Writes a coefficient in a ring.
+pub fn write_coefficient(out: &mut [u8], at: usize, c: u64, ring: Ring) -> usize
+    requires { (c < 2 ^ ring.k) × (at + length (spell_coefficient ring.k c) ≤ length out.old) }
+    ensures { Wrote out.old at (spell_coefficient ring.k c) out.new result }
 {
-    let s = with_sign(c, k);
+    let s = with_sign(c, ring);
     if s.minus {
         out[at] = b'-';
         return write_number(out, at + 1, s.magnitude);
@@ -81,51 +77,49 @@ pub fn write_coefficient(out: &mut [u8], at: usize, c: u64, k: u32) -> usize
     write_number(out, at, s.magnitude)
 }
 
-// Writes a term at k.
-pub fn write_term(out: &mut [u8], at: usize, t: Term, k: u32) -> usize
-    requires { (1 ≤ k) × (k ≤ 64) × ((term_of t).coef < 2 ^ k) × (at + length (spell_term k (term_of t)) ≤ length out.old) }
-    ensures { Wrote out.old at (spell_term k (term_of t)) out.new result }
+// Writes a term in a ring.
+pub fn write_term(out: &mut [u8], at: usize, t: Term, ring: Ring) -> usize
+    requires { ((term_of t).coef < 2 ^ ring.k) × (at + length (spell_term ring.k (term_of t)) ≤ length out.old) }
+    ensures { Wrote out.old at (spell_term ring.k (term_of t)) out.new result }
 {
     let a = terms::set_of(t);
-    let end = write_coefficient(out, at, t[limits::SET_WORDS], k);
+    let end = write_coefficient(out, at, t[limits::SET_WORDS], ring);
     write_set(out, end, a)
 }
 
-// Writes a space, and a term at k behind it.
-fn write_spaced(out: &mut [u8], at: usize, t: Term, k: u32) -> usize
-    requires { (1 ≤ k) × (k ≤ 64) × ((term_of t).coef < 2 ^ k) × (at + length (spaced k (term_of t)) ≤ length out.old) }
-    ensures { Wrote out.old at (spaced k (term_of t)) out.new result }
+// Writes a space, and a term in a ring behind it.
+fn write_spaced(out: &mut [u8], at: usize, t: Term, ring: Ring) -> usize
+    requires { ((term_of t).coef < 2 ^ ring.k) × (at + length (spaced ring.k (term_of t)) ≤ length out.old) }
+    ensures { Wrote out.old at (spaced ring.k (term_of t)) out.new result }
 {
     out[at] = b' ';
-    write_term(out, at + 1, t, k)
+    write_term(out, at + 1, t, ring)
 }
 
-// Writes all terms but the first of a run of n terms at k.
-fn write_rest(out: &mut [u8], at: usize, s: &[u64], n: usize, k: u32) -> usize
-    requires { (1 ≤ k) × (k ≤ 64) × (1 ≤ n) × (n * term_words ≤ length s.now) × Cut k (decode n s.now)
-        × (at + length (gather (spaced k) (drop 1 (decode n s.now))) ≤ length out.old) }
-    ensures { Wrote out.old at (gather (spaced k) (drop 1 (decode n s.now))) out.new result }
+// Writes all terms but the first of a run of n terms in a ring.
+fn write_rest(out: &mut [u8], at: usize, s: &[u64], n: usize, ring: Ring) -> usize
+    requires { (1 ≤ n) × (n * term_words ≤ length s.now) × Cut ring.k (decode n s.now)
+        × (at + length (gather (spaced ring.k) (drop 1 (decode n s.now))) ≤ length out.old) }
+    ensures { Wrote out.old at (gather (spaced ring.k) (drop 1 (decode n s.now))) out.new result }
 {
     let mut end = at;
-    let mut i = 1;
-    while i < n {
+    for i in 1..n {
         let t = terms::read_term(s, i * limits::TERM_WORDS);
-        end = write_spaced(out, end, t, k);
-        i += 1;
+        end = write_spaced(out, end, t, ring);
     }
     end
 }
 
-// Writes a run of n terms at k.
-pub fn write_run(out: &mut [u8], at: usize, s: &[u64], n: usize, k: u32) -> usize
-    requires { (1 ≤ k) × (k ≤ 64) × (n * term_words ≤ length s.now) × Cut k (decode n s.now) × (at + length (spell k (decode n s.now)) ≤ length out.old) }
-    ensures { Wrote out.old at (spell k (decode n s.now)) out.new result }
+// Writes a run of n terms in a ring.
+pub fn write_run(out: &mut [u8], at: usize, s: &[u64], n: usize, ring: Ring) -> usize
+    requires { (n * term_words ≤ length s.now) × Cut ring.k (decode n s.now) × (at + length (spell ring.k (decode n s.now)) ≤ length out.old) }
+    ensures { Wrote out.old at (spell ring.k (decode n s.now)) out.new result }
 {
     if n == 0 {
         out[at] = b'0';
         return at + 1;
     }
     let t = terms::read_term(s, 0);
-    let end = write_term(out, at, t, k);
-    write_rest(out, end, s, n, k)
+    let end = write_term(out, at, t, ring);
+    write_rest(out, end, s, n, ring)
 }

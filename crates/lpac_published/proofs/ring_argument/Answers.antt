@@ -1,10 +1,9 @@
--- A decimal in range, or one outside it; that there is none needs no answer here.
-use Rattle.std.proofs.Common.{refl}
-use Rattle.lpac_published.proofs.RingArguments.{ring_ranged, ring_outside}
+-- A decimal up to the word's end, or not; that there is none needs no answer here.
+use Rattle.lpac_published.proofs.RingArguments.{ring_whole, ring_not}
 use Rattle.lpac_published.proofs.ring_argument.Goals as goal
 
-pub returns-in-Value : goal.returns-in-Value
-returns-in-Value c = ring_ranged _ c.in-Value.ensures refl
+pub returns-then-n-word : goal.returns-then-n-word
+returns-then-n-word c = ring_whole c.args.word.now c.in-Ok.n c.in-Ok.ensures c.unwrap_or.result c.unwrap_or.ensures c.if-n-word.true
 
-pub returns-else-why-ne-NUMBER : goal.returns-else-why-ne-NUMBER
-returns-else-why-ne-NUMBER c = ring_outside _ c.in-Refused.ensures refl c.if-why-ne-NUMBER.false
+pub returns-else-n-word : goal.returns-else-n-word
+returns-else-n-word c = ring_not c.args.word.now c.in-Ok.n c.in-Ok.ensures c.if-n-word.false

@@ -1,10 +1,17 @@
--- What is asked for follows from the decimal's answer.
-use Rattle.std.proofs.Common.{refl}
-use Rattle.lpac_spell.proofs.Asking.{asks_value, asks_large}
+-- What is asked for follows from the decimal's answer and the byte behind it.
+use Rattle.std.proofs.Common.{sym, ◌∙◌}
+use Rattle.lpac_spell.proofs.Asking.{decimal_of, asks_not, asks_some}
 use Rattle.lpac_spell.proofs.asks.Goals as goal
 
-pub returns-in-Value : goal.returns-in-Value
-returns-in-Value c = asks_value _ _ c.in-Value.ensures refl c.behind_tab.ensures
+pub returns-then-not-stands_at : goal.returns-then-not-stands_at
+returns-then-not-stands_at c =
+    let s = c.args.line.now in
+    let n = c.in_ok-n.n in
+    asks_not s n (decimal_of s c.decimal_at.result n c.decimal_at.ensures c.in_ok-n.ensures.value) (sym c.stands_at.ensures ∙ c.if-not-stands_at.true)
 
-pub returns-in-Large : goal.returns-in-Large
-returns-in-Large c = asks_large _ _ c.in-Large.ensures refl c.behind_tab-in-Large.ensures
+pub returns : goal.returns
+returns c =
+    let s = c.args.line.now in
+    let n = c.in_ok-n.n in
+    asks_some s n (decimal_of s c.decimal_at.result n c.decimal_at.ensures c.in_ok-n.ensures.value) c.unwrap_or.result c.unwrap_or.ensures
+    (sym c.stands_at.ensures ∙ c.if-not-stands_at.false)

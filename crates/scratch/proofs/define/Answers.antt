@@ -7,5 +7,5 @@ use Rattle.scratch.proofs.define.Goals as goal
 pub returns : goal.returns
 returns c =
     let a = c.args in
-    defined a.k a.v a.n c.reduce.result _ a.scratch.now c.term_of-t.result c.write_term.new.s c.reduce.new.s (omega arith) (omega arith) (omega arith) c.with-set.ensures
+    defined a.ring.k a.v a.n c.reduce.result _ a.scratch.now c.term_of-t.result c.write_term.new.s c.reduce.new.s (omega arith) (omega arith) (omega arith) c.with-set.ensures
     (search rules) c.term_of-t.ensures c.write_term.ensures c.reduce.ensures

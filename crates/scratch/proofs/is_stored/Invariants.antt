@@ -1,11 +1,7 @@
--- `scratch::is_stored` meets its contract. The loop's invariant: the goal is none of the first j polynomials; the measure is how many are left. Assumes nothing.
-use Prim.Native.Nat.{◌-◌, ◌≤◌}
+-- `scratch::is_stored` meets its contract. The loop's invariant: the goal is none of the first j polynomials. Assumes nothing.
 use Rattle.terms.specs.Terms.{decode}
 use Rattle.scratch.proofs.Goals.{NoneIs}
 use Rattle.scratch.proofs.is_stored.Given as goal
 
 abbrev pub invariant-loop-j : goal.invariant-loop-j
-invariant-loop-j l = (l.j ≤ l.stored) × NoneIs l.starts l.counts l.pool (decode l.n l.goal) l.j
-
-abbrev pub decreases-loop-j : goal.decreases-loop-j
-decreases-loop-j l = l.stored - l.j
+invariant-loop-j l = NoneIs l.table l.pool (decode l.n l.goal) l.j

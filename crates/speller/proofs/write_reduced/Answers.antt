@@ -9,17 +9,14 @@ use Rattle.speller.proofs.write_reduced.Goals as goal
 
 pub run_fits-requires : goal.run_fits-requires
 run_fits-requires c =
-    (c.requires.0, c.requires.1, omega (arith, c.reduce-m.ensures.few, c.requires.2), omega (arith, c.reduce-m.ensures.few, c.reduce-m.ensures.within.same, c.requires.3), leaves_cut _ _ c.reduce-m.ensures)
+    (omega (arith, c.reduce-m.ensures.few, c.requires.0), omega (arith, c.reduce-m.ensures.few, c.reduce-m.ensures.within.same, c.requires.1), leaves_cut _ _ c.reduce-m.ensures)
 
 pub returns-then-not-run_fits : goal.returns-then-not-run_fits
-returns-then-not-run_fits c =
-    gives_same _ c.reduce-m.ensures.terms (gives_full _ c.refused.ensures (sym c.run_fits.ensures ∙ c.if-not-run_fits.true))
+returns-then-not-run_fits c = gives_same _ c.reduce-m.ensures.terms (gives_full _ (sym c.run_fits.ensures ∙ c.if-not-run_fits.true))
 
 pub write_run-requires : goal.write_run-requires
 write_run-requires c = (
-  c.requires.0,
-  c.requires.1,
-  omega (arith, c.reduce-m.ensures.few, c.reduce-m.ensures.within.same, c.requires.3),
+  omega (arith, c.reduce-m.ensures.few, c.reduce-m.ensures.within.same, c.requires.1),
   leaves_cut _ _ c.reduce-m.ensures,
   omega (arith, leb-true _ (length c.args.out.now) (sym c.run_fits.ensures ∙ c.if-not-run_fits.false)),
 )

@@ -1,30 +1,48 @@
 -- `sums::add_products` meets its contract: too many products are not made, and others stand behind the terms before them. No loop.
 -- Assumes nothing.
-use Prim.Native.Nat.{◌*◌, ◌≤◌}
+use Prim.Native.Nat.{◌+◌, ◌-◌, ◌*◌, ◌≤◌}
 use native.Mathlib.Omega.{arith}
-use lib.ListN.{get_or}
+use lib.ListN.{length, get_or}
+use borrow.Author.Rules.{rules}
 use Rattle.limits.specs.Limits.{term_words}
-use Rattle.sums.proofs.Adding.{rows_few, extended_over, extended_all}
+use Rattle.words.proofs.Parts.{length_part}
+use Rattle.table.proofs.Laws.{holds_words}
+use Rattle.sums.proofs.Adding.{extended_over, extended_all}
 use Rattle.sums.proofs.add_products.Goals as goal
 use Rattle.sums.proofs.add_products.Goals.{Start}
 
--- the products of the pair fit a word
-few : (b : Start) → b.args.factor.terms * get_or b.args.counts.now b.args.j 0 ≤ 6291456
-few b = rows_few b.args.factor.terms (get_or b.args.counts.now b.args.j 0) b.requires.1 b.requires.0.few
+-- the words of the polynomial are in the pool
+inside : (c : Start)
+    → let d = c.args.stored.now in
+    get_or d.table.now.starts c.args.j 0 * term_words + get_or d.table.now.counts c.args.j 0 * term_words ≤ length d.pool.now
+inside c =
+    let d = c.args.stored.now in
+    holds_words d.table.now.starts d.table.now.counts d.pool.now d.table.now.stored c.args.j d.holds c.requires.0
 
-pub overflow_mul-count : goal.overflow_mul-count
-overflow_mul-count c = record { fits = omega (arith, few (goal.at.overflow_mul-count c).Start) }
-
-pub overflow_add-count : goal.overflow_add-count
-overflow_add-count c = record { fits = omega (arith, few (goal.at.overflow_add-count c).Start) }
-
-pub returns-then-count-gt-LINE_PRODUCTS : goal.returns-then-count-gt-LINE_PRODUCTS
-returns-then-count-gt-LINE_PRODUCTS c =
+pub returns-then-terms-gt-LINE_PRODUCTS : goal.returns-then-terms-gt-LINE_PRODUCTS
+returns-then-terms-gt-LINE_PRODUCTS c =
     let a = c.args in
-    extended_over a.factor (get_or a.counts.now a.j 0) (get_or a.starts.now a.j 0 * term_words) a.sum a.pool.now a.scratch.now c.if-count-gt-LINE_PRODUCTS.true c.refusal.ensures
+    let t = a.stored.now.table.now in
+    extended_over a.factor (get_or t.counts a.j 0) (get_or t.starts a.j 0 * term_words) a.sum a.stored.now.pool.now a.scratch.now c.if-terms-gt-LINE_PRODUCTS.true
+
+pub slice_bounds-append_products-count : goal.slice_bounds-append_products-count
+slice_bounds-append_products-count c = let e = inside (goal.at.slice_bounds-append_products-count c).Start in search rules
+
+pub slice_bounds-append_products-start : goal.slice_bounds-append_products-start
+slice_bounds-append_products-start c = let e = inside (goal.at.slice_bounds-append_products-start c).Start in search rules
+
+pub append_products-requires : goal.append_products-requires
+append_products-requires c =
+    let d = c.args.stored.now in
+    let at = get_or d.table.now.starts c.args.j 0 * term_words in
+    let e = inside (goal.at.append_products-requires c).Start in
+    let split = c.split_at_mut-front.ensures in
+    (omega (arith, split.front_len), omega (arith, split.back_len), omega (arith, length_part at (length d.pool.now - at) d.pool.now (omega arith)))
 
 pub returns : goal.returns
 returns c =
     let a = c.args in
-    extended_all a.factor (get_or a.counts.now a.j 0) (get_or a.starts.now a.j 0 * term_words) a.sum a.pool.now a.scratch.now
-    c.append_products.new.scratch c.union.result c.requires.1 (omega arith) c.requires.0.words c.if-count-gt-LINE_PRODUCTS.false c.append_products.ensures c.union.ensures
+    let t = a.stored.now.table.now in
+    let split = c.split_at_mut-front.ensures in
+    extended_all a.factor (get_or t.counts a.j 0) (get_or t.starts a.j 0 * term_words) a.sum a.stored.now.pool.now a.scratch.now _ _ _ c.union.result
+    c.requires.1 split.value split.front_len split.back (inside (goal.at.returns c).Start) c.if-terms-gt-LINE_PRODUCTS.false c.append_products.ensures c.union.ensures

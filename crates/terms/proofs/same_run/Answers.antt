@@ -1,32 +1,16 @@
-use mathlib.Core.Path.{refl}
-use native.Mathlib.Omega.{arith}
-use Rattle.terms.proofs.Runs.{run_longer, run_apart, run_more, run_end}
+-- `terms::same_run` meets its contract: runs of one length are the same where their terms are. Assumes nothing.
+use Rattle.std.proofs.Common.{◌≡◌, refl, true, false, arith, rules}
+use Rattle.std.proofs.lemmas.Iterator.{YieldsList-from_range, cases_from_all}
+use borrow.Author.Tests.{tests}
+use Rattle.terms.proofs.Runs.{runs_longer, terms_alike, runs_told}
 use Rattle.terms.proofs.same_run.Goals as goal
 
 pub returns-then-m-n : goal.returns-then-m-n
 returns-then-m-n c =
     let a = c.args in
-    run_longer a.m a.n a.a.now a.b.now c.if-m-n.true
+    runs_told a.a.now a.b.now a.m a.n c.if-m-n.true c.all.result
+    (cases_from_all _ _ _ (λ i. terms_alike a.a.now a.b.now i ≡ true) (λ i. terms_alike a.a.now a.b.now i ≡ false) c.all.ensures.ran
+    (YieldsList-from_range 0 a.m a.m refl (omega arith)) (λ x q k. search (rules, tests)) (λ x q k. search (rules, tests)))
 
-pub returns-then-not-same_term : goal.returns-then-not-same_term
-returns-then-not-same_term c =
-    let a = c.args in
-    run_apart a.n c.loop-i.i a.a.now a.b.now (omega arith) _ _ _ c.read_term-t.ensures c.read_term-u.ensures c.same_term.ensures
-    a.m c.loop-i.invariant.1 c.loop-i.invariant.2 c.if-not-same_term.true
-
-pub loop-i-preserved : goal.loop-i-preserved
-loop-i-preserved c =
-    let a = c.args in (
-      omega arith,
-      c.loop-i.invariant.1,
-      run_more a.n c.loop-i.i a.a.now a.b.now (omega arith) _ _ _ c.read_term-t.ensures c.read_term-u.ensures c.same_term.ensures
-          a.m c.loop-i.invariant.1 c.loop-i.invariant.2 c.if-not-same_term.false,
-    )
-
-pub returns : goal.returns
-returns c =
-    let a = c.args in
-    run_end a.m a.n c.loop-i.i a.a.now a.b.now c.loop-i.invariant.1 (omega arith) c.loop-i.invariant.2
-
-pub loop-i-init : goal.loop-i-init
-loop-i-init c = (omega arith, omega arith, refl)
+pub returns-else-m-n : goal.returns-else-m-n
+returns-else-m-n c = let a = c.args in runs_longer a.m a.n a.a.now a.b.now c.if-m-n.false

@@ -1,16 +1,9 @@
--- `terms::same_set` meets its contract: it is told by the order of the two sets. Assumes nothing.
-use Rattle.words.specs.declared.Order.TheVariants.{Less, Equal, Greater}
-use Rattle.terms.proofs.Comparing.{equal_told}
+-- `terms::same_set` meets its contract: sets are their numbers. Assumes nothing.
+use Rattle.std.proofs.Common.{◌∙◌, ap₂, eqb, rules}
+use Rattle.terms.proofs.Runs.{sets_alike}
 use Rattle.terms.proofs.same_set.Goals as goal
 
-pub returns-in-Less : goal.returns-in-Less
-returns-in-Less c =
-    equal_told _ Less _ _ _ _ c.compare-o.ensures c.set_of-a.ensures c.set_of-b.ensures c.in-Less.is
-
-pub returns-in-Equal : goal.returns-in-Equal
-returns-in-Equal c =
-    equal_told _ Equal _ _ _ _ c.compare-o.ensures c.set_of-a.ensures c.set_of-b.ensures c.in-Equal.is
-
-pub returns-in-Greater : goal.returns-in-Greater
-returns-in-Greater c =
-    equal_told _ Greater _ _ _ _ c.compare-o.ensures c.set_of-a.ensures c.set_of-b.ensures c.in-Greater.is
+pub returns : goal.returns
+returns c =
+    c.eq.ensures ∙ sets_alike c.set_of.result c.set_of-2.result (search rules) (λ i. search rules) (λ i. search rules)
+    ∙ ap₂ eqb c.set_of.ensures c.set_of-2.ensures

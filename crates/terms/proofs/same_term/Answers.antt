@@ -1,9 +1,7 @@
 -- `terms::same_term` meets its contract: the sets are compared, then the coefficients. Assumes nothing.
-use Rattle.terms.proofs.Runs.{term_apart, term_alike}
+use Rattle.terms.specs.Terms.{term_of}
 use Rattle.terms.proofs.same_term.Goals as goal
 
-pub returns-then-not-same_set : goal.returns-then-not-same_set
-returns-then-not-same_set c = term_apart _ _ _ c.same_set.ensures c.if-not-same_set.true
-
-pub returns : goal.returns
-returns c = term_alike _ _ _ c.same_set.ensures c.if-not-same_set.false
+pub returns-then-same_set : goal.returns-then-same_set
+unfolding term_of
+returns-then-same_set c = rw (← c.if-same_set.ensures)

@@ -1,23 +1,10 @@
-use mathlib.Core.Path.{◌≡◌, refl, ap, ◌∙◌}
-use native.Mathlib.Omega.{arith}
-use borrow.Author.Rules.{rules}
-use lib.ListN.{replicate, length-set}
-use Rattle.limits.specs.Limits.{set_words, term_words}
-use Rattle.words.proofs.Parts.{front_more}
+-- `terms::term_of` meets its contract: the coefficient stands behind the words of the set. Assumes nothing.
+use Rattle.std.proofs.Common.{ℕ, List, [], ◌∷◌, ◌++◌, ap, ◌∙◌, rules}
 use Rattle.terms.specs.Terms.{term_of}
 use Rattle.terms.proofs.Decode.{term_made}
 use Rattle.terms.proofs.term_of.Goals as goal
 
-pub loop-i-preserved : goal.loop-i-preserved
-loop-i-preserved c =
-    let a = c.args in
-    (omega arith, c.loop-i.invariant.1, simp length-set c.loop-i.invariant.2, rw c.loop-i.invariant.3 (front_more (replicate term_words a.c) a.a c.loop-i.i (omega arith) (omega arith)))
-
 pub returns : goal.returns
 returns c =
     let a = c.args in
-    let e : c.loop-i.i ≡ set_words = omega arith in
-    ap term_of (rw e at c.loop-i.invariant.3) ∙ term_made (replicate term_words a.c) a.a a.c refl c.loop-i.invariant.1 refl
-
-pub loop-i-init : goal.loop-i-init
-loop-i-init c = (omega arith, search rules, refl, refl)
+    ap (λ (l : List ℕ). term_of (l ++ (a.c ∷ []))) c.copy_from_slice.ensures.after ∙ term_made a.a a.c (search rules)

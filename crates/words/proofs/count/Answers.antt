@@ -1,33 +1,20 @@
+-- `words::count` meets its contract: the ones of the words, which no word has more than 64 of. Assumes nothing.
 use Rattle.std.proofs.Common.{◌∙◌, arith, rules}
+use Rattle.std.proofs.lemmas.Iterator.{YieldsList-from_slice, YieldsList-from_map}
+use Rattle.std.proofs.lemmas.Iterator.Consumers.{sum_by_from_yields_List, fits_by_from_yields_list}
+use lib.Count.{ones}
 use Rattle.limits.specs.Limits.{variables}
-use Rattle.words.proofs.Laws.{Words}
-use Rattle.words.proofs.WordByWord.{count_start, count_more, count_word, count_le, count_end}
+use Rattle.words.proofs.WordByWord.{ones_fit, ones_members}
 use Rattle.words.proofs.count.Goals as goal
 
-pub loop-i-init : goal.loop-i-init
-loop-i-init c = (omega arith, count_start c.args.a)
-
-pub overflow_cast-n : goal.overflow_cast-n
-overflow_cast-n c =
-    let loop = c.loop-i in
-    let args = c.args in
-    record { fits = omega (arith, count_word args.a loop.i (λ i. search rules)) }
-
-pub overflow_add-n : goal.overflow_add-n
-overflow_add-n c =
-    let loop = c.loop-i in
-    let args = c.args in
-    let f : Words args.a = λ i. search rules in
-    record { fits = omega (arith, count_word args.a loop.i f, count_le args.a loop.i f (search rules)) }
-
-pub loop-i-preserved : goal.loop-i-preserved
-loop-i-preserved c =
-    let loop = c.loop-i in
-    let args = c.args in
-    (omega arith, omega (arith, count_more args.a loop.i (λ i. search rules) (search rules)))
+pub sum-requires-clause-fits : goal.sum-requires-clause-fits
+sum-requires-clause-fits c =
+    fits_by_from_yields_list ones c.args.a c.map.result _
+    (YieldsList-from_map _ ones (YieldsList-from_slice c.args.a cc) (search rules) (λ x r q k. search rules))
+    (omega (arith, ones_fit c.args.a (λ i. search rules)))
 
 pub returns : goal.returns
 returns c =
-    let loop = c.loop-i in
-    let args = c.args in
-    loop.invariant.1 ∙ count_end args.a loop.i variables 0 (λ i. search rules) (search rules) (search rules)
+    sum_by_from_yields_List ones c.args.a c.map.result c.sum.result c.sum.ensures.ran
+    (YieldsList-from_map _ ones (YieldsList-from_slice c.args.a cc) (search rules) (λ x r q k. search rules))
+    ∙ ones_members c.args.a variables 0 (λ i. search rules) (search rules)

@@ -3,4 +3,4 @@ use Rattle.checker.proofs.Running.{reports}
 use Rattle.checker.proofs.answer.report.Goals as goal
 
 pub returns : goal.returns
-returns c = λ pool scratch. reports c.args.state c.requires c.args.verdict c.args.line c.args.index pool scratch
+returns c = λ pool scratch. reports c.args.state.now c.requires c.args.verdict c.args.line c.args.index pool scratch

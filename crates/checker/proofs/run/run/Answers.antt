@@ -1,146 +1,43 @@
-use mathlib.Core.Path.{◌≡◌, refl, sym, ◌∙◌}
-use Prim.Native.Nat.{ℕ, ◌+◌, ◌-◌, ◌<◌}
+use mathlib.Core.Path.{ap}
 use native.Mathlib.Omega.{arith}
-use lib.ListN.{length}
-use mathlib.Core.List.{List}
+use Rattle.limits.specs.Refusals.{outcome}
 use Rattle.paper.specs.Answer.{item_of}
-use Rattle.steps.specs.declared.state.Step.{Step}
-use Rattle.steps.specs.Stepped.{Room}
 use Rattle.steps.specs.Items.{ItemJudged}
-use Rattle.checker.specs.Checked.{line_at}
-use Rattle.steps.proofs.Calling.{ready_reads}
-use Rattle.steps.proofs.Asking.{ask_ring, ask_input, ask_goal, ask_lin, ask_ext}
-use Rattle.steps.proofs.Judging.{judged_ring, judged_input, judged_goal, judged_lin, judged_del, judged_ext, judged_refused}
-use Rattle.checker.proofs.Running.{Going, going_start, onward_room, going_more, goes, going_asks, going_end}
+use Rattle.steps.proofs.Asking.{ask_judge}
+use Rattle.checker.proofs.Running.{line_at, onward_start, onward_room, onward_end, onward_more, turned_packed, turned_few, turned_read, turned_answer}
 use Rattle.checker.proofs.run.run.Goals as goal
-use Rattle.checker.proofs.run.run.Goals.{After-line_end-e}
+use Rattle.checker.proofs.run.run.Goals.{After-judge}
 
-pub loop-from-init : goal.loop-from-init
-loop-from-init c = (going_start c.new.ensures c.with_verdict-r.ensures c.requires.1 c.requires.2 c.requires.3, refl, refl)
+pub loop-at-init : goal.loop-at-init
+loop-at-init c = onward_start c.new-state.ensures c.requires.1
 
--- no line was refused, and one is left
-going : (d : After-line_end-e) → (d.loop-from.r.verdict ≡ 0) × (d.loop-from.at < length d.args.text.now)
-going d = goes d.loop-from.r.verdict d.loop-from.at d.args.text.now (sym d.goes_on.ensures ∙ d.loop-from-test.true)
+pub judge-requires : goal.judge-requires
+judge-requires c = ask_judge c.read_line-said.ensures (onward_room c.loop-at.invariant c.loop-at-test.true c.requires.0)
 
-room : (d : After-line_end-e) → Room d.args.capacity d.loop-from.r.state d.loop-from.pool d.loop-from.scratch
-room d = let g = going d in onward_room (d.loop-from.invariant.0.on g.0) g.1 d.requires.0
+-- the line is judged
+judged : (d : After-judge)
+    → ItemJudged d.args.capacity (item_of (line_at d.args.text.now d.loop-at.at d.line_end-e.result)) d.loop-at.state d.loop-at.pool d.loop-at.scratch d.judge.result d.judge.new.self d.judge.new.pool d.judge.new.scratch
+judged d = d.judge.ensures.judged _ _ d.read_line-said.ensures
 
--- what is left is less, and a judged line leads on
-less : (d : After-line_end-e) → length d.args.text.now + 1 - (d.line_end-e.result + 1) < length d.args.text.now + 1 - d.loop-from.at
-less d = let g = (going d).1 in omega arith
+pub refused_index-i-requires : goal.refused_index-i-requires
+refused_index-i-requires c =
+    turned_read c.loop-at.invariant c.loop-at-test.true c.line_end-e.ensures (judged (goal.at.refused_index-i-requires c).After-judge) c.in-Err.is c.number-v.ensures
 
-more : (d : After-line_end-e) {r : Step} {pool' scratch' : List ℕ}
-    → ItemJudged d.args.capacity (item_of (line_at d.args.text.now d.loop-from.at d.line_end-e.result)) d.loop-from.r.state d.loop-from.pool d.loop-from.scratch r pool' scratch'
-    → Going d.args.capacity d.args.text.now r d.loop-from.at (d.line_end-e.result + 1) pool' scratch'
-    × (length pool' ≡ length d.args.pool.now) × (length scratch' ≡ length d.args.scratch.now)
-more d j =
-    let l = d.loop-from.invariant in
-    let g = going d in
-    (going_more (l.0.on g.0) g.1 d.requires.0 d.line_end-e.ensures j, j.pool_length ∙ l.1, j.scratch_length ∙ l.2)
-
-pub line_end-e-requires : goal.line_end-e-requires
-line_end-e-requires c = let g = (goes c.loop-from.r.verdict c.loop-from.at c.args.text.now (sym c.goes_on.ensures ∙ c.loop-from-test.true)).1 in omega arith
-
--- that a line's end is not before its start serves twice: for its length, and as the start of its part
-pub slice_bounds-read_line-count : goal.slice_bounds-read_line-count
-slice_bounds-read_line-count c = omega arith
-
-pub slice_bounds-read_line-end : goal.slice_bounds-read_line-end
-slice_bounds-read_line-end c = omega arith
-
-pub read_line-line-requires : goal.read_line-line-requires
-read_line-line-requires c = ready_reads (room (goal.at.read_line-line-requires c).After-line_end-e).ready
-
-pub overflow_add-at : goal.overflow_add-at
-overflow_add-at c =
+pub overflow_add-state : goal.overflow_add-state
+overflow_add-state c =
+    let f = turned_few c.loop-at.invariant c.loop-at-test.true c.line_end-e.ensures (judged (goal.at.overflow_add-state c).After-judge) c.in-Err.is in
     omega arith
 
-pub step_ring-r-requires : goal.step_ring-r-requires
-step_ring-r-requires c =
-    ask_ring c.read_line-line.ensures c.in-Ring.is (room (goal.at.step_ring-r-requires c).After-line_end-e)
+pub report-requires : goal.report-requires
+report-requires c = turned_packed c.loop-at.invariant c.loop-at-test.true c.line_end-e.ensures (judged (goal.at.report-requires c).After-judge) c.in-Err.is
 
-pub loop-from-smaller-in-Ring : goal.loop-from-smaller-in-Ring
-loop-from-smaller-in-Ring c = less (goal.at.loop-from-smaller-in-Ring c).After-line_end-e
+pub returns-in-Err : goal.returns-in-Err
+returns-in-Err c =
+    turned_answer c.loop-at.invariant c.loop-at-test.true c.line_end-e.ensures (judged (goal.at.returns-in-Err c).After-judge) c.in-Err.is c.number-v.ensures c.refused_index-i.ensures
+    (c.report.ensures c.judge.new.pool c.judge.new.scratch)
 
-pub loop-from-preserved-in-Ring : goal.loop-from-preserved-in-Ring
-loop-from-preserved-in-Ring c =
-    more (goal.at.loop-from-preserved-in-Ring c).After-line_end-e (judged_ring c.read_line-line.ensures c.in-Ring.is (room (goal.at.loop-from-preserved-in-Ring c).After-line_end-e) c.step_ring-r.ensures)
-
-pub step_input-r-requires : goal.step_input-r-requires
-step_input-r-requires c =
-    ask_input c.read_line-line.ensures c.in-Input.is (room (goal.at.step_input-r-requires c).After-line_end-e)
-
-pub loop-from-smaller-in-Input : goal.loop-from-smaller-in-Input
-loop-from-smaller-in-Input c = less (goal.at.loop-from-smaller-in-Input c).After-line_end-e
-
-pub loop-from-preserved-in-Input : goal.loop-from-preserved-in-Input
-loop-from-preserved-in-Input c =
-    more (goal.at.loop-from-preserved-in-Input c).After-line_end-e (judged_input c.read_line-line.ensures c.in-Input.is c.step_input-r.ensures)
-
-pub step_goal-r-requires : goal.step_goal-r-requires
-step_goal-r-requires c =
-    ask_goal c.read_line-line.ensures c.in-Goal.is (room (goal.at.step_goal-r-requires c).After-line_end-e)
-
-pub loop-from-smaller-in-Goal : goal.loop-from-smaller-in-Goal
-loop-from-smaller-in-Goal c = less (goal.at.loop-from-smaller-in-Goal c).After-line_end-e
-
-pub loop-from-preserved-in-Goal : goal.loop-from-preserved-in-Goal
-loop-from-preserved-in-Goal c =
-    more (goal.at.loop-from-preserved-in-Goal c).After-line_end-e (judged_goal c.read_line-line.ensures c.in-Goal.is (room (goal.at.loop-from-preserved-in-Goal c).After-line_end-e) c.step_goal-r.ensures)
-
-pub step_lin-r-requires : goal.step_lin-r-requires
-step_lin-r-requires c =
-    ask_lin c.read_line-line.ensures c.in-Lin.is (room (goal.at.step_lin-r-requires c).After-line_end-e)
-
-pub loop-from-smaller-in-Lin : goal.loop-from-smaller-in-Lin
-loop-from-smaller-in-Lin c = less (goal.at.loop-from-smaller-in-Lin c).After-line_end-e
-
-pub loop-from-preserved-in-Lin : goal.loop-from-preserved-in-Lin
-loop-from-preserved-in-Lin c =
-    more (goal.at.loop-from-preserved-in-Lin c).After-line_end-e (judged_lin c.read_line-line.ensures c.in-Lin.is c.step_lin-r.ensures)
-
-pub step_del-r-requires : goal.step_del-r-requires
-step_del-r-requires c =
-    (_, _, room (goal.at.step_del-r-requires c).After-line_end-e)
-
-pub loop-from-smaller-in-Del : goal.loop-from-smaller-in-Del
-loop-from-smaller-in-Del c = less (goal.at.loop-from-smaller-in-Del c).After-line_end-e
-
-pub loop-from-preserved-in-Del : goal.loop-from-preserved-in-Del
-loop-from-preserved-in-Del c =
-    more (goal.at.loop-from-preserved-in-Del c).After-line_end-e (judged_del c.read_line-line.ensures c.in-Del.is (room (goal.at.loop-from-preserved-in-Del c).After-line_end-e) c.step_del-r.ensures)
-
-pub step_ext-r-requires : goal.step_ext-r-requires
-step_ext-r-requires c =
-    ask_ext c.read_line-line.ensures c.in-Ext.is (room (goal.at.step_ext-r-requires c).After-line_end-e)
-
-pub loop-from-smaller-in-Ext : goal.loop-from-smaller-in-Ext
-loop-from-smaller-in-Ext c = less (goal.at.loop-from-smaller-in-Ext c).After-line_end-e
-
-pub loop-from-preserved-in-Ext : goal.loop-from-preserved-in-Ext
-loop-from-preserved-in-Ext c =
-    more (goal.at.loop-from-preserved-in-Ext c).After-line_end-e (judged_ext c.read_line-line.ensures c.in-Ext.is c.step_ext-r.ensures)
-
-pub loop-from-smaller : goal.loop-from-smaller
-loop-from-smaller c = less (goal.at.loop-from-smaller c).After-line_end-e
-
-pub loop-from-preserved : goal.loop-from-preserved
-loop-from-preserved c =
-    more (goal.at.loop-from-preserved c).After-line_end-e (judged_refused c.read_line-line.ensures c.in-Refused.is)
-
--- ---- behind the last line
-pub conclude-requires : goal.conclude-requires
-conclude-requires c = going_asks c.loop-from.invariant.0 c.requires.0
+pub loop-at-preserved : goal.loop-at-preserved
+loop-at-preserved c = onward_more c.loop-at.invariant c.loop-at-test.true c.line_end-e.ensures (judged (goal.at.loop-at-preserved c).After-judge) (ap outcome c.in_default.is)
 
 pub returns : goal.returns
-returns c =
-    record { answer = going_end c.loop-from.invariant.0 (sym c.goes_on.ensures ∙ c.loop-from-test.false) c.conclude.ensures; pool_length = c.loop-from.invariant.1; scratch_length = c.loop-from.invariant.2 }
-
-pub slice_bounds-read_line-start : goal.slice_bounds-read_line-start
-slice_bounds-read_line-start c = slice_bounds-read_line-count c
-
-pub shape_of-pool : goal.shape_of-pool
-shape_of-pool c = c.loop-from.invariant.1
-
-pub shape_of-scratch : goal.shape_of-scratch
-shape_of-scratch c = c.loop-from.invariant.2
+returns c = onward_end c.loop-at.invariant c.loop-at-test.false (c.ending.ensures c.loop-at.pool c.loop-at.scratch)

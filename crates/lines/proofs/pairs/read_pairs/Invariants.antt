@@ -2,14 +2,14 @@
 -- refuses them the sum is theirs; the stated region and the goal's are kept. The measure is what is left of the length. Assumes nothing.
 use Prim.Native.Nat.{◌-◌}
 use lib.ListN.{length}
-use Rattle.table.specs.Table.{store_of_columns}
+use Rattle.table.specs.Stores.{store_in}
 use Rattle.scratch.specs.Scratch.{Kept}
 use Rattle.lines.proofs.Walking.{PairsTo}
 use Rattle.lines.proofs.pairs.read_pairs.Given as goal
 
 abbrev pub invariant-loop-scratch : goal.invariant-loop-scratch
 invariant-loop-scratch l =
-    PairsTo l.k (store_of_columns l.indices l.starts l.counts l.pool l.n) l.s l.at l.scratch l.sum l.why l.i × Kept l.initial.scratch l.scratch
+    PairsTo l.stored.ring (store_in l.stored) l.s l.at l.scratch l.sum l.why l.i × Kept l.initial.scratch l.scratch
 
 abbrev pub decreases-loop-scratch : goal.decreases-loop-scratch
 decreases-loop-scratch l = length l.s - l.i

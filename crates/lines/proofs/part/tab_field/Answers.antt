@@ -1,28 +1,19 @@
 -- `lines::part::tab_field` meets its contract: no tab, or a polynomial behind one, read into its region. No loop. Assumes nothing.
-use mathlib.Core.Path.{refl, sym, ◌∙◌}
-use mathlib.Core.Logic.{inl}
-use Prim.Native.Nat.{◌+◌, ◌-◌, ◌*◌}
-use native.Mathlib.Omega.{arith}
-use Rattle.limits.specs.Limits.{field_terms, term_words}
-use Rattle.words.proofs.Parts.{within_refl, length_part}
-use Rattle.lines.proofs.Parts.{tab_inside}
-use Rattle.lines.proofs.Regions.{field_untabbed, field_tabbed}
+use Rattle.words.proofs.Parts.{within_refl}
+use Rattle.paper.specs.Grammar.{bytes, tab, field, polynomial}
+use Rattle.reader.proofs.Following.{fails_first}
+use Rattle.lines.proofs.Parts.{stops_on}
+use Rattle.lines.proofs.Regions.{field_behind}
 use Rattle.lines.proofs.part.tab_field.Goals as goal
 
-pub returns-then-not-tab_at : goal.returns-then-not-tab_at
-returns-then-not-tab_at c =
-    record {
-      part = inl (refl, field_untabbed c.args.s.now c.args.at c.requires.0 (sym c.tab_at.ensures ∙ c.if-not-tab_at.true));
-      kept = within_refl;
-    }
-
-pub read_field-requires : goal.read_field-requires
-read_field-requires c = (
-  omega (arith, tab_inside c.args.s.now c.args.at (sym c.tab_at.ensures ∙ c.if-not-tab_at.false)),
-  omega (arith, length_part c.args.base (c.args.base + field_terms * term_words - c.args.base) c.args.scratch.now (omega arith)),
-)
+pub returns-in_err-behind : goal.returns-in_err-behind
+unfolding field tab bytes
+returns-in_err-behind c = record {
+  part = stops_on _ (fails_first tab (λ _. polynomial) c.in_err-behind.ensures) c.from_residual.result c.from_residual.ensures.1;
+  kept = within_refl;
+}
 
 pub returns : goal.returns
+unfolding tab bytes
 returns c =
-    field_tabbed c.args.s.now c.args.at c.args.base c.args.scratch.now c.read_field.new.out c.requires.1 c.read_field.result
-    (sym c.tab_at.ensures ∙ c.if-not-tab_at.false) c.read_field.ensures
+    field_behind c.args.s.now c.in_ok-behind.behind c.args.base c.args.scratch.now c.read_field.new.out c.requires.1 c.in_ok-behind.ensures c.read_field.result c.read_field.ensures

@@ -1,18 +1,13 @@
 -- `lines::part::tab_number` meets its contract: no tab, or a number behind one. No loop. Assumes nothing.
-use mathlib.Core.Path.{refl, sym, ◌∙◌}
-use mathlib.Core.Logic.{inl}
-use native.Mathlib.Omega.{arith}
-use Rattle.lines.proofs.Parts.{tab_inside, number_tabbed, number_untabbed}
+use Rattle.paper.specs.Grammar.{bytes, decimal, tab, number}
+use Rattle.reader.proofs.Following.{fails_first}
+use Rattle.lines.proofs.Parts.{stops_on, taken_behind, stops_behind}
 use Rattle.lines.proofs.part.tab_number.Goals as goal
 
-pub returns-then-not-tab_at : goal.returns-then-not-tab_at
-returns-then-not-tab_at c =
-    inl (refl, number_untabbed c.args.s.now c.args.at c.requires.0 (sym c.tab_at.ensures ∙ c.if-not-tab_at.true))
-
-pub read_number-requires : goal.read_number-requires
-read_number-requires c =
-    (omega (arith, tab_inside c.args.s.now c.args.at (sym c.tab_at.ensures ∙ c.if-not-tab_at.false)), c.requires.1)
+pub returns-in_err-behind : goal.returns-in_err-behind
+unfolding number tab bytes
+returns-in_err-behind c = stops_on _ (fails_first tab (λ _. decimal) c.in_err-behind.ensures) c.from_residual.result c.from_residual.ensures.1
 
 pub returns : goal.returns
-returns c =
-    number_tabbed c.args.s.now c.args.at (sym c.tab_at.ensures ∙ c.if-not-tab_at.false) c.read_number.ensures
+unfolding number tab bytes
+returns c = stops_behind decimal tab c.in_ok-behind.ensures (λ n h. taken_behind tab c.in_ok-behind.ensures h) c.read_number.result c.read_number.ensures

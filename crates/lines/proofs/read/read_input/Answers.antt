@@ -1,30 +1,22 @@
 -- `lines::read::read_input` meets its contract: a keyword, an index and a polynomial in a row. No loop. Assumes nothing.
-use native.Mathlib.Omega.{arith}
 use Rattle.words.proofs.Parts.{within_refl}
-use Rattle.paper.specs.Grammar.{bytes, number, field}
+use Rattle.paper.specs.Grammar.{bytes, number, field, input_line}
 use Rattle.reader.proofs.Following.{fails_first}
 use Rattle.scratch.proofs.Keeping.{stated_kept}
-use Rattle.lines.proofs.Parts.{part_stuck, part_took}
+use Rattle.lines.proofs.LineKinds.{kind_stops}
 use Rattle.lines.proofs.KindParts.{first_stops, later_stops, input_line_law}
 use Rattle.lines.proofs.read.read_input.Goals as goal
 
-pub returns-then-i-eq-FORM : goal.returns-then-i-eq-FORM
+pub returns-in_err-i : goal.returns-in_err-i
 unfolding bytes
-returns-then-i-eq-FORM c =
-    λ _ _ _. first_stops (bytes "in") number _ within_refl c.headed-i.ensures c.if-i-eq-FORM.true
+returns-in_err-i c = λ _ _. kind_stops input_line within_refl (first_stops (bytes "in") number _ c.in_err-i.ensures) c.from_residual.result c.from_residual.ensures.1
 
-pub tab_field-p-requires : goal.tab_field-p-requires
-tab_field-p-requires c =
-    ((part_took c.headed-i.ensures c.if-i-eq-FORM.false).taken.inside, omega arith)
-
-pub returns-then-p-eq-FORM : goal.returns-then-p-eq-FORM
+pub returns-in_err-p : goal.returns-in_err-p
 unfolding bytes
-returns-then-p-eq-FORM c =
-    λ _ _ _. later_stops (bytes "in") number _ (stated_kept c.tab_field-p.ensures.kept) (part_took c.headed-i.ensures c.if-i-eq-FORM.false)
-    (fails_first field _ (part_stuck c.tab_field-p.ensures.part c.if-p-eq-FORM.true)) c.if-p-eq-FORM.true
+returns-in_err-p c =
+    λ _ _. kind_stops input_line (stated_kept c.tab_field.ensures.kept) (later_stops (bytes "in") number _ c.in_ok-i.ensures.taken (fails_first field _ c.in_err-p.ensures.part))
+    c.from_residual-in_err-p.result c.from_residual-in_err-p.ensures.1
 
 pub returns : goal.returns
 unfolding bytes
-returns c =
-    λ _ _ _. input_line_law c.tab_field-p.result c.tab_field-p.ensures.kept c.headed-i.result (part_took c.headed-i.ensures c.if-i-eq-FORM.false) (part_took c.tab_field-p.ensures.part c.if-p-eq-FORM.false)
-    c.lesser.ensures c.closed.ensures
+returns c = λ _ _. input_line_law c.in_ok-p.p c.tab_field.ensures.kept c.in_ok-i.i c.in_ok-i.ensures c.in_ok-p.ensures.part c.lesser.ensures

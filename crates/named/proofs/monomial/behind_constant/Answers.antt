@@ -1,23 +1,27 @@
 -- `named::monomial::behind_constant` meets its contract: a constant, and the names behind it. No loop. Assumes nothing.
-use Rattle.named.proofs.Factors.{stopped, went_on, no_form}
-use Rattle.named.proofs.Monomials.{monomial_stops, constant_stops, constant_took}
+use borrow.Author.Rules.{rules}
+use Rattle.paper.specs.Grammar.{is_digit}
+use Rattle.reader.proofs.Following.{same_err}
+use Rattle.named.proofs.Tokens.{is_here}
+use Rattle.named.proofs.Monomials.{constant_stops, factors_stop, constant_took}
 use Rattle.named.proofs.monomial.behind_constant.Goals as goal
 
-pub read_names-vs-requires : goal.read_names-vs-requires
-read_names-vs-requires c = (c.requires.0, c.requires.1, c.read_constant-c.ensures.taken.inside)
+pub read_constant-requires : goal.read_constant-requires
+read_constant-requires c = let h = (is_here is_digit _ _ c.requires).0 in search rules
 
-pub returns-then-vs-eq-FORM : goal.returns-then-vs-eq-FORM
-returns-then-vs-eq-FORM c =
+pub returns-in_err-c-clause-read : goal.returns-in_err-c-clause-read
+returns-in_err-c-clause-read c =
     let a = c.args in
-    monomial_stops a.plain a.n a.negative a.s.now a.at a.room.now c.read_names-vs.new.room c.no_monomial.result c.no_monomial.ensures
-    (constant_stops a.negative a.s.now a.at c.requires.2 c.read_constant-c.result c.read_constant-c.ensures
-    (stopped c.read_names-vs.ensures (λ q. no_form q.why) c.if-vs-eq-FORM.true))
+    rw (same_err c.from_residual.result c.from_residual.ensures.1) (constant_stops a.negative a.s.now a.at c.requires c.in_err-c.ensures)
 
-pub returns : goal.returns
-returns c =
+pub returns-in_err-vs-clause-read : goal.returns-in_err-vs-clause-read
+returns-in_err-vs-clause-read c =
     let a = c.args in
-    constant_took a.negative a.s.now a.at c.requires.2 c.read_constant-c.result c.read_constant-c.ensures a.plain a.n a.room.now c.read_names-vs.new.room
-    c.read_names-vs.result (went_on c.read_names-vs.ensures c.if-vs-eq-FORM.false) c.signed.result c.signed.ensures c.term_of.result c.term_of.ensures
+    rw (same_err c.from_residual-in_err-vs.result c.from_residual-in_err-vs.ensures.1)
+    (factors_stop a.negative a.s.now a.at c.requires c.in_ok-c.c c.in_ok-c.ensures c.in_err-vs.ensures.read)
 
-pub read_constant-c-requires : goal.read_constant-c-requires
-read_constant-c-requires c = c.requires.2
+pub returns-clause-read : goal.returns-clause-read
+returns-clause-read c =
+    let a = c.args in
+    constant_took a.negative a.s.now a.at c.requires c.in_ok-c.c c.in_ok-c.ensures a.names.now c.read_names.new.names c.in_ok-vs.vs c.in_ok-vs.ensures.read
+    c.signed.result c.signed.ensures c.term_of.result c.term_of.ensures

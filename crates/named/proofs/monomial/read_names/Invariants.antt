@@ -1,15 +1,13 @@
--- `named::monomial::read_names` meets its contract. The loop's invariant: names stand from at up to i, as set, names and bad tell.
+-- `named::monomial::read_names` meets its contract. The loop's invariant: names stand from at up to i, as set and bad tell.
 -- The measure is what is left of the length. Assumes nothing.
-use mathlib.Core.Path.{◌≡◌}
 use Prim.Native.Nat.{◌-◌}
 use lib.ListN.{length}
 use Rattle.words.specs.Words.{number_of}
 use Rattle.named.proofs.Factors.{NamesTo}
 use Rattle.named.proofs.monomial.read_names.Given as goal
 
-abbrev pub invariant-loop-room : goal.invariant-loop-room
-invariant-loop-room l =
-    NamesTo l.plain l.n l.s l.at (number_of l.initial.set) l.initial.room l.room l.set l.names l.bad l.i × (length l.room ≡ length l.initial.room) × (length l.hints ≡ length l.initial.hints)
+abbrev pub invariant-loop-names : goal.invariant-loop-names
+invariant-loop-names l = NamesTo l.initial.names l.names l.s l.at (number_of l.initial.set) l.set l.bad l.i
 
-abbrev pub decreases-loop-room : goal.decreases-loop-room
-decreases-loop-room l = length l.s - l.i
+abbrev pub decreases-loop-names : goal.decreases-loop-names
+decreases-loop-names l = length l.s - l.i

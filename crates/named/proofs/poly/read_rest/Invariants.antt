@@ -1,6 +1,5 @@
 -- `named::poly::read_rest` meets its contract. The loop's invariant: monomials stand from at up to i and are put behind the first, as the
 -- other variables tell. The measure is what is left of the length. Assumes nothing.
-use mathlib.Core.Path.{◌≡◌}
 use Prim.Native.Nat.{◌+◌, ◌-◌, ◌*◌, ◌≤◌}
 use lib.ListN.{length}
 use Rattle.limits.specs.Limits.{field_terms, term_words}
@@ -8,10 +7,9 @@ use Rattle.words.specs.Parts.{Within}
 use Rattle.named.proofs.Polynomials.{MonomialsTo}
 use Rattle.named.proofs.poly.read_rest.Given as goal
 
-abbrev pub invariant-loop-room : goal.invariant-loop-room
-invariant-loop-room l =
-    MonomialsTo l.plain l.n l.s l.at l.initial.room l.room l.initial.out l.out l.terms l.why l.names l.bad l.i × Within term_words (field_terms * term_words) l.initial.out l.out × (l.terms + l.at ≤ l.i + 1)
-    × (length l.room ≡ length l.initial.room) × (length l.hints ≡ length l.initial.hints)
+abbrev pub invariant-loop-names : goal.invariant-loop-names
+invariant-loop-names l =
+    MonomialsTo l.initial.names l.names l.s l.at l.initial.out l.out l.terms l.why l.bad l.i × Within term_words (field_terms * term_words) l.initial.out l.out × (l.terms + l.at ≤ l.i + 1)
 
-abbrev pub decreases-loop-room : goal.decreases-loop-room
-decreases-loop-room l = length l.s - l.i
+abbrev pub decreases-loop-names : goal.decreases-loop-names
+decreases-loop-names l = length l.s - l.i

@@ -1,13 +1,8 @@
--- `named::token::skip_spaces` meets its contract. The loop's invariant: the white space from at on ends where that from i on does.
--- The measure is what is left of the length. Assumes nothing.
+-- `named::token::skip_spaces` meets its contract. The loop's invariant: the white space from at on ends where that from i on does. Assumes nothing.
 use mathlib.Core.Path.{◌≡◌}
-use Prim.Native.Nat.{◌≤◌, ◌-◌}
-use lib.ListN.{length, drop}
+use lib.ListN.{drop}
 use Rattle.paper.specs.Published.{spaces}
 use Rattle.named.proofs.token.skip_spaces.Given as goal
 
 abbrev pub invariant-loop-i : goal.invariant-loop-i
-invariant-loop-i l = (l.at ≤ l.i) × (l.i ≤ length l.s) × (spaces (drop l.at l.s) ≡ spaces (drop l.i l.s))
-
-abbrev pub decreases-loop-i : goal.decreases-loop-i
-decreases-loop-i l = length l.s - l.i
+invariant-loop-i l = spaces (drop l.at l.s) ≡ spaces (drop l.i l.s)

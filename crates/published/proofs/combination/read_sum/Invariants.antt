@@ -1,19 +1,19 @@
--- `published::combination::read_sum` meets its contract. The loop's invariant: what stood at its begin stands now, whatever names were
--- held before: summands from at up to the end of r, with their sum, or the place where they stop. The measure is what is left of the
--- length. Assumes nothing.
+-- `published::combination::read_sum` meets its contract. The loop's invariant: summands stand from at up to the end of r, with their sum. The
+-- measure is what is left of the length. Assumes nothing.
 use mathlib.Core.Path.{◌≡◌}
 use Prim.Native.Nat.{◌-◌}
 use lib.ListN.{length}
-use Rattle.paper.specs.Grammar.{Bytes}
-use Rattle.table.specs.Table.{store_of_columns}
+use Rattle.table.specs.Stores.{store_in}
 use Rattle.scratch.specs.Scratch.{Kept}
-use Rattle.published.proofs.Summing.{SummandsOr}
+use Rattle.published.proofs.Summing.{SummandsTo}
 use Rattle.published.proofs.combination.read_sum.Given as goal
 
-abbrev pub invariant-loop-r : goal.invariant-loop-r
-invariant-loop-r l =
-    ((x : Bytes) → SummandsOr l.k (store_of_columns l.indices l.starts l.counts l.pool l.stored) l.plain l.n l.s l.at x l.initial.room l.initial.scratch l.initial.r → SummandsOr l.k (store_of_columns l.indices l.starts l.counts l.pool l.stored) l.plain l.n l.s l.at x l.room l.scratch l.r)
-    × Kept l.initial.scratch l.scratch × (length l.room ≡ length l.initial.room) × (length l.hints ≡ length l.initial.hints)
+abbrev pub invariant-loop-next : goal.invariant-loop-next
+invariant-loop-next l = record {
+  summed : SummandsTo l.stored.ring (store_in l.stored) l.fn.names l.names l.s l.at l.scratch l.r;
+  kept : Kept l.fn.scratch l.scratch;
+  plain : l.names.plain ≡ l.fn.names.plain;
+}
 
-abbrev pub decreases-loop-r : goal.decreases-loop-r
-decreases-loop-r l = length l.s - l.r.end
+abbrev pub decreases-loop-next : goal.decreases-loop-next
+decreases-loop-next l = length l.s - l.r.end

@@ -1,17 +1,17 @@
 -- `published::statement::read_target` meets its contract: a polynomial. No loop. Assumes nothing.
+use Rattle.reader.proofs.Following.{same_err}
 use Rattle.scratch.proofs.Keeping.{stated_kept}
-use Rattle.named.proofs.Factors.{stopped, went_on}
-use Rattle.published.proofs.Regions.{named_form}
-use Rattle.published.proofs.Closing.{item_stops}
+use Rattle.published.proofs.Closing.{named_below, whole_stops}
 use Rattle.published.proofs.StatementKinds.{target_stuck, target_item}
 use Rattle.published.proofs.statement.read_target.Goals as goal
 
-pub returns-then-p-eq-FORM : goal.returns-then-p-eq-FORM
-returns-then-p-eq-FORM c =
-    λ k store. item_stops (stated_kept c.read_polynomial-p.ensures.kept) (target_stuck (stopped c.read_polynomial-p.ensures.said named_form c.if-p-eq-FORM.true))
-    c.no_statement.result c.no_statement.ensures
+pub returns-in_err-p-clause-read : goal.returns-in_err-p-clause-read
+returns-in_err-p-clause-read c = λ k store.
+    rw (same_err c.from_residual.result c.from_residual.ensures.1)
+    (record { said = whole_stops (target_stuck c.in_err-p.ensures.read.said); kept = stated_kept c.in_err-p.ensures.read.kept })
 
-pub returns : goal.returns
-returns c =
-    λ k store. target_item c.read_polynomial-p.ensures.kept c.none.result c.read_polynomial-p.result c.closed.result
-    (went_on c.read_polynomial-p.ensures.said c.if-p-eq-FORM.false) c.closed.ensures
+pub closed-requires : goal.closed-requires
+closed-requires c = named_below c.in_ok-p.ensures.read.said
+
+pub returns-clause-read : goal.returns-clause-read
+returns-clause-read c = λ k store. target_item c.in_ok-p.ensures.read.kept c.in_ok-p.ensures.read.said c.closed.ensures

@@ -3,5 +3,4 @@ use Rattle.published.proofs.StatementKinds.{delete_item}
 use Rattle.published.proofs.step.read_delete.Goals as goal
 
 pub returns : goal.returns
-returns c =
-    λ h k store plain room words held. delete_item c.args.i h c.closed.result held c.requires c.none.result c.closed.ensures
+returns c = λ h k store names words. delete_item h names c.requires.1 c.closed.ensures

@@ -1,13 +1,9 @@
--- `reader::keyword::word_at` meets its contract. The loop's invariant: from at up to i the bytes are the first j of w.
--- The measure is what is left of w. Assumes nothing.
+-- `reader::keyword::word_at` meets its contract. The loop's invariant: the bytes from at on are the first i of w. Assumes nothing.
 use mathlib.Core.Path.{◌≡◌}
-use Prim.Native.Nat.{◌≤◌, ◌+◌, ◌-◌}
+use Prim.Native.Nat.{◌≤◌, ◌+◌}
 use lib.ListN.{length, drop}
 use Rattle.paper.specs.Grammar.{literal}
 use Rattle.reader.proofs.keyword.word_at.Given as goal
 
-abbrev pub invariant-loop-j : goal.invariant-loop-j
-invariant-loop-j l = (l.i ≡ l.at + l.j) × (l.i ≤ length l.s) × (l.j ≤ length l.w) × (literal l.w (drop l.at l.s) ≡ literal (drop l.j l.w) (drop l.i l.s))
-
-abbrev pub decreases-loop-j : goal.decreases-loop-j
-decreases-loop-j l = length l.w - l.j
+abbrev pub invariant-loop-i : goal.invariant-loop-i
+invariant-loop-i l = (l.at + l.i ≤ length l.s) × (literal l.w (drop l.at l.s) ≡ literal (drop l.i l.w) (drop (l.at + l.i) l.s))

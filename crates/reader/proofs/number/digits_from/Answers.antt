@@ -1,61 +1,37 @@
-use mathlib.Core.Path.{refl, sym, ◌∙◌}
-use Prim.Native.Nat.{◌<◌, ◌+◌, ◌-◌, ◌*◌, ◌^◌}
+use mathlib.Core.Path.{◌≡◌, ◌∙◌}
 use native.Mathlib.Omega.{arith}
-use lib.ListN.{get_or}
-use borrow.Author.Tests.{leb-false}
-use Rattle.paper.proofs.Pieces.{digits_more, digits_low, digits_high, digits_end_law}
-use Rattle.reader.proofs.Numbers.{digits_large}
+use lib.ListN.{length, drop, get_or, length-drop}
+use lib.Seq.{take_all}
+use Prim.Native.Nat.{◌+◌, ◌-◌, ◌*◌}
+use Rattle.paper.proofs.Pieces.{digits_more, digits_end_law}
+use Rattle.reader.proofs.Numbers.{digits_stop, digits_large}
 use Rattle.reader.proofs.number.digits_from.Goals as goal
-use Rattle.reader.proofs.number.digits_from.Goals.{Else-exceeds}
 
-pub loop-i-init : goal.loop-i-init
-loop-i-init c = (omega arith, omega arith, omega arith, refl)
+pub returns-then-not-is_ascii_digit : goal.returns-then-not-is_ascii_digit
+returns-then-not-is_ascii_digit c =
+    let l = c.loop-i in
+    record { reads = l.invariant.3 ∙ digits_stop c.args.s.now l.i (omega arith) c.if-not-is_ascii_digit.ensures.cases l.v; onward = omega arith; inside = omega arith }
 
-pub returns-then-b-lt48 : goal.returns-then-b-lt48
-returns-then-b-lt48 c =
-    let loop = c.loop-i in
-    let s = c.args.s.now in
-    record { reads = loop.invariant.3 ∙ digits_low loop.v s loop.i (omega arith) c.if-b-lt48.true; onward = omega arith; inside = omega arith }
-
-pub returns-then-b-gt57 : goal.returns-then-b-gt57
-returns-then-b-gt57 c =
-    let loop = c.loop-i in
-    let s = c.args.s.now in
-    record { reads = loop.invariant.3 ∙ digits_high loop.v s loop.i (omega arith) c.if-b-gt57.true; onward = omega arith; inside = omega arith }
-
-pub returns-then-exceeds : goal.returns-then-exceeds
-returns-then-exceeds c =
-    let loop = c.loop-i in
-    let args = c.args in
-    digits_large args.s.now args.at loop.i args.first loop.v c.digits_end.result loop.invariant.3
-    (omega arith) (omega arith) (omega arith) (omega arith)
-    (sym c.exceeds.ensures ∙ c.if-exceeds.true)
-    c.digits_end.ensures
-
--- a digit that does not exceed
-one_more : (c : Else-exceeds)
-    → c.loop-i.v * 10
-    + (get_or c.args.s.now c.loop-i.i 0 - 48)
-    < 2 ^ 64
-one_more c =
-    let loop = c.loop-i in
-    let s = c.args.s.now in
-    leb-false (2 ^ 64) (loop.v * 10 + (get_or s loop.i 0 - 48)) (sym c.exceeds.ensures ∙ c.if-exceeds.false)
-
-pub overflow_mul-v : goal.overflow_mul-v
-overflow_mul-v c = omega (arith, one_more (goal.at.overflow_mul-v c).Else-exceeds)
-
-pub overflow_add-v : goal.overflow_add-v
-overflow_add-v c = omega (arith, one_more (goal.at.overflow_add-v c).Else-exceeds)
+pub returns-in_default : goal.returns-in_default
+returns-in_default c =
+    let l = c.loop-i in
+    let a = c.args in
+    let d = c.if-not-is_ascii_digit.ensures.cases in
+    rw (c.leading_digits.ensures, take_all (length a.s.now - l.i) (drop l.i a.s.now) (omega (arith, length-drop l.i a.s.now)))
+    (digits_large a.s.now a.at l.i a.first l.v l.invariant.3 (omega arith) (omega arith) (omega arith) (omega arith)
+    (omega (arith, c.from-d.ensures, c.in_default.ensures)))
 
 pub loop-i-preserved : goal.loop-i-preserved
 loop-i-preserved c =
-    let loop = c.loop-i in
+    let l = c.loop-i in
     let s = c.args.s.now in
-    (omega arith, omega arith, omega (arith, one_more (goal.at.loop-i-preserved c).Else-exceeds), loop.invariant.3 ∙ digits_more loop.v s loop.i (omega arith) (omega arith) (omega arith))
+    let d = c.if-not-is_ascii_digit.ensures.cases in
+    let v : c.in-Some.more ≡ l.v * 10 + (get_or s l.i 0 - 48) = omega (arith, c.in-Some.ensures.1, c.from-d.ensures) in
+    (omega arith, omega arith, omega (arith, c.in-Some.ensures), rw v (l.invariant.3 ∙ digits_more l.v s l.i (omega arith) (omega arith) (omega arith)))
 
 pub returns : goal.returns
 returns c =
-    let loop = c.loop-i in
+    let l = c.loop-i in
     let s = c.args.s.now in
-    record { reads = loop.invariant.3 ∙ digits_end_law loop.v s loop.i (omega arith); onward = omega arith; inside = omega arith }
+    let q : l.i ≡ length s = omega arith in
+    record { reads = rw q at (l.invariant.3 ∙ digits_end_law l.v s l.i (omega arith)); onward = omega arith; inside = omega arith }

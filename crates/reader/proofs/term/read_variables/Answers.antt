@@ -1,84 +1,50 @@
 use mathlib.Core.Path.{◌≡◌, sym, ◌∙◌}
 use mathlib.Core.Bool.{true}
-use mathlib.Core.Logic.{inl, inr}
 use Prim.Native.Nat.{◌+◌, ◌-◌}
 use Prim.Native.Char.{code}
-use native.Mathlib.Omega.{arith}
 use borrow.Author.Rules.{rules}
 use Rattle.limits.specs.Limits.{variables}
 use Rattle.paper.specs.Grammar.{decimal}
-use Rattle.reader.specs.Numbers.{InRange}
 use Rattle.reader.specs.Marks.{variable_marks}
 use Rattle.reader.specs.Fields.{stands_at}
-use Rattle.reader.proofs.Numbers.{number_got, number_not, RefusedAs, refused_onward}
-use Rattle.reader.proofs.Following.{passed_took}
+use Rattle.reader.proofs.Numbers.{number_some, number_none}
+use Rattle.reader.proofs.Following.{same_err, passed_took}
 use Rattle.reader.proofs.Fields.{stands, each_over, variables_none, variables_more, variables_out, variables_stuck}
 use Rattle.reader.proofs.term.read_variables.Goals as goal
-use Rattle.reader.proofs.term.read_variables.Goals.{After-refused-r, In-Value, In-loop-n}
+use Rattle.reader.proofs.term.read_variables.Goals.{In-loop-set}
 
-pub loop-n-init : goal.loop-n-init
-loop-n-init c = let a = c.args in variables_none a.s.now a.at (search rules)
+pub loop-set-init : goal.loop-set-init
+loop-set-init c = variables_none c.args.s.now c.args.at (search rules)
 
 -- a dot stands at i
-here : (c : In-loop-n) → stands_at c.args.s.now c.loop-n.i (code ".") ≡ true
-here c = sym c.stands_at.ensures ∙ c.loop-n-test.true
+here : (c : In-loop-set) → stands_at c.args.s.now c.loop-set.i (code ".") ≡ true
+here c = sym c.stands_at.ensures ∙ c.loop-set-test.true
 
-pub overflow_add-i : goal.overflow_add-i
-overflow_add-i c = let h = (stands _ _ (code ".") (here (goal.at.overflow_add-i c).In-loop-n)).0 in search rules
+pub number_at-requires : goal.number_at-requires
+number_at-requires c = let h = (stands _ _ (code ".") (here (goal.at.number_at-requires c).In-loop-set)).0 in search rules
 
-pub number_at-n-requires : goal.number_at-n-requires
-number_at-n-requires c = let h = (stands _ _ (code ".") (here (goal.at.number_at-n-requires c).In-loop-n)).0 in search rules
+pub returns-in_err-n : goal.returns-in_err-n
+returns-in_err-n c =
+    let l = c.loop-set in
+    rw (same_err c.from_residual.result c.from_residual.ensures.1)
+    (variables_stuck c.args.s.now c.args.at l.i l.outside l.set l.invariant (here (goal.at.returns-in_err-n c).In-loop-set) c.in_err-n.ensures)
 
--- the number that was refused
-refused : (c : After-refused-r)
-    → RefusedAs decimal 0 (variables - 1) c.args.s.now
-    (c.loop-n.i + 1) c.refused-r.result
-refused c = number_not decimal 0 (variables - 1) _ _ c.number_at-n.ensures c.in_default.is c.refused-r.ensures
+pub loop-set-preserved : goal.loop-set-preserved
+loop-set-preserved c =
+    let l = c.loop-set in
+    variables_more c.args.s.now c.args.at l.i l.outside l.set l.invariant (here (goal.at.loop-set-preserved c).In-loop-set) c.with-more.result
+    (number_some decimal 0 (variables - 1) c.args.s.now (l.i + 1) c.in_ok-n.ensures c.in-Some.is) c.with-more.ensures
 
-pub returns-then-r-eq-FORM : goal.returns-then-r-eq-FORM
-returns-then-r-eq-FORM c =
-    let l = c.loop-n in
-    let a = c.args in
-    inl (c.if-r-eq-FORM.true, variables_stuck a.s.now a.at l.i l.why l.byte l.set l.invariant (here (goal.at.returns-then-r-eq-FORM c).In-loop-n) _ (refused (goal.at.returns-then-r-eq-FORM c).After-refused-r) c.if-r-eq-FORM.true)
-
-pub overflow_add-i-in_default : goal.overflow_add-i-in_default
-overflow_add-i-in_default c =
-    let h = (stands _ _ (code ".") (here (goal.at.overflow_add-i-in_default c).In-loop-n)).0 in
-    search rules
-
-pub loop-n-smaller-in_default : goal.loop-n-smaller-in_default
-loop-n-smaller-in_default c =
-    omega (arith, (stands _ _ (code ".") (here (goal.at.loop-n-smaller-in_default c).In-loop-n)).0, refused_onward decimal 0 (variables - 1) _ _ (refused (goal.at.loop-n-smaller-in_default c).After-refused-r))
-
-pub loop-n-preserved-in_default : goal.loop-n-preserved-in_default
-loop-n-preserved-in_default c =
-    let l = c.loop-n in
-    let a = c.args in
-    rw c.first_byte-byte.ensures
-    (variables_out a.s.now a.at l.i l.why l.byte l.set l.invariant (here (goal.at.loop-n-preserved-in_default c).In-loop-n) _ (refused (goal.at.loop-n-preserved-in_default c).After-refused-r) c.if-r-eq-FORM.false)
-
--- the number that was read
-number : (c : In-Value)
-    → InRange decimal 0 (variables - 1) c.args.s.now
-    (c.loop-n.i + 1) c.in-Value.v c.in-Value.e
-number c = number_got decimal 0 (variables - 1) _ _ c.number_at-n.ensures c.in-Value.is
-
-pub with-more-requires : goal.with-more-requires
-with-more-requires c = omega (arith, (number (goal.at.with-more-requires c).In-Value).below)
-
-pub loop-n-smaller : goal.loop-n-smaller
-loop-n-smaller c =
-    omega (arith, (stands _ _ (code ".") (here (goal.at.loop-n-smaller c).In-loop-n)).0, (number (goal.at.loop-n-smaller c).In-Value).taken.onward)
-
-pub loop-n-preserved : goal.loop-n-preserved
-loop-n-preserved c =
-    let l = c.loop-n in
-    let a = c.args in
-    variables_more a.s.now a.at l.i l.why l.byte l.set l.invariant (here (goal.at.loop-n-preserved c).In-loop-n) c.with-more.result (number (goal.at.loop-n-preserved c).In-Value) c.with-more.ensures
+pub loop-set-preserved-in_default : goal.loop-set-preserved-in_default
+loop-set-preserved-in_default c =
+    let l = c.loop-set in
+    rw c.or-outside.ensures
+    (variables_out c.args.s.now c.args.at l.i l.outside l.set l.invariant (here (goal.at.loop-set-preserved-in_default c).In-loop-set)
+    (number_none decimal 0 (variables - 1) c.args.s.now (l.i + 1) c.in_ok-n.ensures c.in_default.is))
 
 pub returns : goal.returns
 returns c =
-    let l = c.loop-n in
-    let a = c.args in
-    inr (passed_took (code ".") decimal variable_marks a.s.now a.at l.i l.why l.byte l.invariant
-    (each_over (code ".") decimal a.s.now l.i (sym c.stands_at.ensures ∙ c.loop-n-test.false)))
+    let l = c.loop-set in
+    let s = c.args.s.now in
+    passed_took (code ".") decimal variable_marks s c.args.at l.i l.outside l.invariant
+    (each_over (code ".") decimal s l.i (sym c.stands_at.ensures ∙ c.loop-set-test.false))

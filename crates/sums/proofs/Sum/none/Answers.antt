@@ -3,4 +3,4 @@ use Rattle.sums.proofs.Summing.{summed_none}
 use Rattle.sums.proofs.Sum.none.Goals as goal
 
 pub returns : goal.returns
-returns c = λ k store scratch. summed_none c.refusal.ensures
+returns c = λ k store scratch. summed_none

@@ -1,204 +1,43 @@
-use mathlib.Core.Path.{◌≡◌, refl, sym, ap, subst, ◌∙◌}
-use mathlib.Core.List.{List}
-use Prim.Native.Nat.{ℕ, ◌+◌, ◌-◌, ◌<◌}
+use mathlib.Core.Path.{refl, ap}
+use Prim.Native.Nat.{◌<◌}
 use native.Mathlib.Omega.{arith}
-use lib.ListN.{length, drop}
-use Rattle.paper.specs.Published.{Name, NamedItem, pieces, read_by}
-use Rattle.paper.specs.Named.{numbered}
-use Rattle.table.specs.Table.{store_of}
-use Rattle.steps.specs.declared.said.Said.{Said}
-use Rattle.steps.specs.declared.state.Step.{Step}
-use Rattle.steps.specs.Stepped.{Room}
-use Rattle.steps.specs.Items.{ItemIs, ItemJudged}
-use Rattle.steps.proofs.Calling.{ready_reads}
-use Rattle.steps.proofs.Asking.{NoRefusal, ask_ring, ask_input, ask_goal, ask_lin, ask_ext}
-use Rattle.steps.proofs.Judging.{judged_ring, judged_input, judged_goal, judged_lin, judged_del, judged_ext, judged_refused}
-use Rattle.published.specs.Statements.{reader_of, items_of}
-use Rattle.checker.proofs.Running.{goes}
-use Rattle.triple.specs.Courses.{Judging}
-use Rattle.triple.proofs.Telling.{refuses, own_item}
-use Rattle.triple.proofs.Underway.{as_read, behind_it, StepLeaves, leaves_step, leaves_refused, AtPiece, at_piece, piece_at, items_next, items_end, judging_start, judging_room, judging_next, judging_end, at_end}
+use Rattle.limits.specs.Refusals.{outcome}
+use Rattle.steps.proofs.Calling.{room_kept}
+use Rattle.triple.proofs.Telling.{asks}
+use Rattle.triple.proofs.Underway.{at_piece, items_first, items_next, items_end, onward_room, onward_next, onward_refused, onward_end, judging_on, judging_off}
 use Rattle.triple.proofs.course.judge_text.Goals as goal
-use Rattle.triple.proofs.course.judge_text.Goals.{After-find_byte-e, After-kind_behind-next}
+use Rattle.triple.proofs.course.judge_text.Goals.{After-kind_behind-next}
 
--- no statement was refused, and one is left
-going : (d : After-find_byte-e) → (d.loop-c.c.step.verdict ≡ 0) × (d.loop-c.at < length d.args.text.now)
-going d = goes d.loop-c.c.step.verdict d.loop-c.at d.args.text.now d.loop-c-test.true
+pub judge-requires : goal.judge-requires
+judge-requires c =
+    let r = c.read_statement-read.ensures.read in
+    (room_kept r.kept.same (onward_room c.loop-at.invariant.0 (omega arith)), asks r)
 
-room : (d : After-find_byte-e) → Room d.args.capacity d.loop-c.c.step.state d.loop-c.pool d.loop-c.scratch
-room d = let g = going d in judging_room d.loop-c.invariant.0 g.0 (omega (arith, g.1))
+pub returns-in-Err : goal.returns-in-Err
+returns-in-Err c =
+    let i = c.loop-at.invariant in
+    judging_off refl
+    (onward_refused i.0 (items_first c.loop-at.next c.loop-at-test.true i.1 c.find_byte-e.ensures) c.read_statement-read.ensures.read c.judge.ensures.judged c.judge.ensures.unread c.read_statement-read.ensures.plain
+    c.in-Err.is (omega arith))
 
-module _ (z : After-kind_behind-next) where
-  onto : (z.loop-c.c.step.verdict ≡ 0) × (z.loop-c.at < length z.args.text.now)
-  onto = goes z.loop-c.c.step.verdict z.loop-c.at z.args.text.now z.loop-c-test.true
+-- the next place is behind the one before
+onto : (d : After-kind_behind-next) → d.loop-at.at < d.begin_at-at-in-loop-at.result
+onto d = d.begin_at-at-in-loop-at.ensures.onward d.loop-at.at (omega arith) d.loop-at-test.true
 
-  less : length z.args.text.now - z.begin_at-at-in-loop-c.result < length z.args.text.now - z.loop-c.at
-  less =
-      let g = onto.1 in
-      let o = z.begin_at-at-in-loop-c.ensures.onward z.loop-c.at (omega arith) g in
-      omega arith
-
-  -- the statement that is there
-  abbrev there : NamedItem
-  there = read_by (reader_of z.loop-c.next) (piece_at z.args.text.now z.loop-c.at z.find_byte-e.result)
-
-  abbrev Read : (Name → ℕ) → Type 0
-  Read f = ItemIs z.loop-c.c.step.state.ring (store_of z.loop-c.c.step.state.table z.loop-c.pool) (numbered f there) z.loop-c.scratch z.read_statement-line.new.scratch (as_read z.read_statement-line.result)
-
-  -- it was read in numbers of its own
-  own : {y : Said} → z.read_statement-line.result.said ≡ y → NoRefusal y → (f : Name → ℕ) × Read f
-  own e h = own_item z.read_statement-line.ensures e h
-
-  -- a statement that was judged leads on
-  abbrev Judges : Step → List ℕ → List ℕ → Type 0
-  Judges r pool' scratch'' = (f : Name → ℕ) → Read f → ItemJudged z.args.capacity (numbered f there) z.loop-c.c.step.state z.loop-c.pool z.loop-c.scratch r pool' scratch''
-
-  abbrev Again : Step → List ℕ → List ℕ → Type 0
-  Again r pool' scratch'' =
-      let a = z.args in
-      let l = z.read_statement-line in
-      Judging a.capacity a.plain (items_of a.kind (pieces a.text.now)) a.c a.room.now a.pool.now a.scratch.now
-      (items_of z.kind_behind-next.result (pieces (drop z.begin_at-at-in-loop-c.result a.text.now))) (behind_it l.result r) l.new.room pool' scratch'' (a.c.step.state.lines + z.begin_at-at-in-loop-c.result)
-      × AtPiece a.text.now z.begin_at-at-in-loop-c.result × (length l.new.room ≡ length a.room.now) × (length l.new.hints ≡ length a.hints.now)
-      × (length pool' ≡ length a.pool.now) × (length scratch'' ≡ length a.scratch.now)
-
-  more : {r : Step} {pool' scratch'' : List ℕ} → StepLeaves z.args.capacity z.loop-c.c.step.state z.read_statement-line.result r pool' scratch''
-      → Judges r pool' scratch'' → length pool' ≡ length z.loop-c.pool → length scratch'' ≡ length z.loop-c.scratch → Again r pool' scratch''
-  more m j p q =
-      let i = z.loop-c.invariant in
-      let g = onto in
-      let h = z.find_byte-e.ensures in
-      let o = h.without.onward in
-      let b = z.begin_at-at-in-loop-c.ensures in
-      let k = z.read_statement-line.auto in (
-        judging_next i.0 g.0 (items_next z.loop-c.next g.1 i.1 h b z.kind_behind-next.ensures) z.read_statement-line.ensures m j (omega (arith, b.onward z.loop-c.at (omega arith) g.1)),
-        at_piece b,
-        k.room ∙ i.2,
-        k.hints ∙ i.3,
-        p ∙ i.4,
-        q ∙ i.5,
-      )
-
-  stepped : {y : Said} {r : Step} {pool' scratch'' : List ℕ} → z.read_statement-line.result.said ≡ y → NoRefusal y → Judges r pool' scratch'' → Again r pool' scratch''
-  stepped e h j =
-      let o = own e h in
-      let k = j o.0 o.1 in
-      more (leaves_step k (subst NoRefusal (sym e) h)) j k.pool_length k.scratch_length
-
-pub loop-c-init : goal.loop-c-init
-loop-c-init c =
-    (judging_start c.requires.0 (omega arith) (ap (items_of c.args.kind) c.begin_at-at.ensures.same), at_piece c.begin_at-at.ensures, refl, refl, refl, refl)
-
-pub find_byte-e-requires : goal.find_byte-e-requires
-find_byte-e-requires c = c.loop-c.invariant.1.inside
-
--- that a statement's end is not before its start serves twice: for its length, and as the start of its part
-pub slice_bounds-read_statement-count : goal.slice_bounds-read_statement-count
-slice_bounds-read_statement-count c = omega arith
-
-pub slice_bounds-read_statement-end : goal.slice_bounds-read_statement-end
-slice_bounds-read_statement-end c = omega arith
-
-pub read_statement-line-requires : goal.read_statement-line-requires
-read_statement-line-requires c =
-    let g = going (goal.at.read_statement-line-requires c).After-find_byte-e in
-    let q = ready_reads (room (goal.at.read_statement-line-requires c).After-find_byte-e).ready in
-    (q.0, q.1, c.loop-c.invariant.0.able.holding g.0, omega (arith, c.loop-c.invariant.3, c.requires.2), q.2)
-
-pub overflow_add-e : goal.overflow_add-e
-overflow_add-e c =
+pub loop-at-smaller : goal.loop-at-smaller
+loop-at-smaller c =
+    let o = onto (goal.at.loop-at-smaller c).After-kind_behind-next in
     omega arith
 
-pub step_ring-c-requires : goal.step_ring-c-requires
-step_ring-c-requires c =
-    ask_ring (own (goal.at.step_ring-c-requires c).After-kind_behind-next c.in-Ring.is tt).1 c.in-Ring.is (room (goal.at.step_ring-c-requires c).After-find_byte-e)
+pub loop-at-preserved : goal.loop-at-preserved
+loop-at-preserved c =
+    let i = c.loop-at.invariant in
+    let b = c.begin_at-at-in-loop-at.ensures in
+    let o = onto (goal.at.loop-at-preserved c).After-kind_behind-next in (
+      onward_next i.0 (items_next c.loop-at.next c.loop-at-test.true i.1 c.find_byte-e.ensures b c.kind_behind-next.ensures) c.read_statement-read.ensures.read c.judge.ensures.judged c.judge.ensures.unread
+          c.read_statement-read.ensures.plain (ap outcome c.in_default.is) (omega arith),
+      at_piece b,
+    )
 
-pub loop-c-preserved-in-Ring : goal.loop-c-preserved-in-Ring
-loop-c-preserved-in-Ring c =
-    stepped (goal.at.loop-c-preserved-in-Ring c).After-kind_behind-next c.in-Ring.is tt (λ f y. judged_ring y c.in-Ring.is (room (goal.at.loop-c-preserved-in-Ring c).After-find_byte-e) c.step_ring-c.ensures)
-
-pub step_input-c-requires : goal.step_input-c-requires
-step_input-c-requires c =
-    ask_input (own (goal.at.step_input-c-requires c).After-kind_behind-next c.in-Input.is tt).1 c.in-Input.is (room (goal.at.step_input-c-requires c).After-find_byte-e)
-
-pub loop-c-preserved-in-Input : goal.loop-c-preserved-in-Input
-loop-c-preserved-in-Input c =
-    stepped (goal.at.loop-c-preserved-in-Input c).After-kind_behind-next c.in-Input.is tt (λ f y. judged_input y c.in-Input.is c.step_input-c.ensures)
-
-pub step_goal-c-requires : goal.step_goal-c-requires
-step_goal-c-requires c =
-    ask_goal (own (goal.at.step_goal-c-requires c).After-kind_behind-next c.in-Goal.is tt).1 c.in-Goal.is (room (goal.at.step_goal-c-requires c).After-find_byte-e)
-
-pub loop-c-preserved-in-Goal : goal.loop-c-preserved-in-Goal
-loop-c-preserved-in-Goal c =
-    stepped (goal.at.loop-c-preserved-in-Goal c).After-kind_behind-next c.in-Goal.is tt (λ f y. judged_goal y c.in-Goal.is (room (goal.at.loop-c-preserved-in-Goal c).After-find_byte-e) c.step_goal-c.ensures)
-
-pub step_lin-c-requires : goal.step_lin-c-requires
-step_lin-c-requires c =
-    ask_lin (own (goal.at.step_lin-c-requires c).After-kind_behind-next c.in-Lin.is tt).1 c.in-Lin.is (room (goal.at.step_lin-c-requires c).After-find_byte-e)
-
-pub loop-c-preserved-in-Lin : goal.loop-c-preserved-in-Lin
-loop-c-preserved-in-Lin c =
-    stepped (goal.at.loop-c-preserved-in-Lin c).After-kind_behind-next c.in-Lin.is tt (λ f y. judged_lin y c.in-Lin.is c.step_lin-c.ensures)
-
-pub step_del-c-requires : goal.step_del-c-requires
-step_del-c-requires c =
-    (_, _, room (goal.at.step_del-c-requires c).After-find_byte-e)
-
-pub loop-c-preserved-in-Del : goal.loop-c-preserved-in-Del
-loop-c-preserved-in-Del c =
-    stepped (goal.at.loop-c-preserved-in-Del c).After-kind_behind-next c.in-Del.is tt (λ f y. judged_del y c.in-Del.is (room (goal.at.loop-c-preserved-in-Del c).After-find_byte-e) c.step_del-c.ensures)
-
-pub step_ext-c-requires : goal.step_ext-c-requires
-step_ext-c-requires c =
-    ask_ext (own (goal.at.step_ext-c-requires c).After-kind_behind-next c.in-Ext.is tt).1 c.in-Ext.is (room (goal.at.step_ext-c-requires c).After-find_byte-e)
-
-pub loop-c-preserved-in-Ext : goal.loop-c-preserved-in-Ext
-loop-c-preserved-in-Ext c =
-    stepped (goal.at.loop-c-preserved-in-Ext c).After-kind_behind-next c.in-Ext.is tt (λ f y. judged_ext y c.in-Ext.is c.step_ext-c.ensures)
-
-pub loop-c-preserved : goal.loop-c-preserved
-loop-c-preserved c =
-    more (goal.at.loop-c-preserved c).After-kind_behind-next (leaves_refused c.in-Refused.is (refuses c.read_statement-line.ensures.tells _ c.in-Refused.is)) (λ f y. judged_refused y c.in-Refused.is) refl c.read_statement-line.ensures.kept.same
-
--- ---- behind the last statement
 pub returns : goal.returns
-returns c =
-    let t = c.args.text.now in
-    judging_end c.loop-c.invariant.0 (λ z. items_end t c.loop-c.next c.loop-c.at (at_end c.loop-c.c.step.verdict c.loop-c.at t c.loop-c-test.false z)) (omega arith)
-
-pub slice_bounds-read_statement-start : goal.slice_bounds-read_statement-start
-slice_bounds-read_statement-start c = slice_bounds-read_statement-count c
-
-pub loop-c-smaller-in-Ring : goal.loop-c-smaller-in-Ring
-loop-c-smaller-in-Ring c = less (goal.at.loop-c-smaller-in-Ring c).After-kind_behind-next
-
-pub loop-c-smaller-in-Input : goal.loop-c-smaller-in-Input
-loop-c-smaller-in-Input c = less (goal.at.loop-c-smaller-in-Input c).After-kind_behind-next
-
-pub loop-c-smaller-in-Goal : goal.loop-c-smaller-in-Goal
-loop-c-smaller-in-Goal c = less (goal.at.loop-c-smaller-in-Goal c).After-kind_behind-next
-
-pub loop-c-smaller-in-Lin : goal.loop-c-smaller-in-Lin
-loop-c-smaller-in-Lin c = less (goal.at.loop-c-smaller-in-Lin c).After-kind_behind-next
-
-pub loop-c-smaller-in-Del : goal.loop-c-smaller-in-Del
-loop-c-smaller-in-Del c = less (goal.at.loop-c-smaller-in-Del c).After-kind_behind-next
-
-pub loop-c-smaller-in-Ext : goal.loop-c-smaller-in-Ext
-loop-c-smaller-in-Ext c = less (goal.at.loop-c-smaller-in-Ext c).After-kind_behind-next
-
-pub loop-c-smaller : goal.loop-c-smaller
-loop-c-smaller c = less (goal.at.loop-c-smaller c).After-kind_behind-next
-
-pub shape_of-room : goal.shape_of-room
-shape_of-room c = c.loop-c.invariant.2
-
-pub shape_of-hints : goal.shape_of-hints
-shape_of-hints c = c.loop-c.invariant.3
-
-pub shape_of-pool : goal.shape_of-pool
-shape_of-pool c = c.loop-c.invariant.4
-
-pub shape_of-scratch : goal.shape_of-scratch
-shape_of-scratch c = c.loop-c.invariant.5
+returns c = judging_on (onward_end c.loop-at.invariant.0 (items_end c.args.text.now c.loop-at.next c.loop-at.at c.loop-at-test.false) (omega arith))

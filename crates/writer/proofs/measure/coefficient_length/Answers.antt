@@ -15,9 +15,9 @@ overflow_add-result c =
 pub returns-then-s : goal.returns-then-s
 returns-then-s c =
     let a = c.args in
-    omega (arith, c.number_length-digits.ensures, ap length (signed_minus a.k a.c c.with_sign-s.result c.with_sign-s.ensures c.if-s.true))
+    omega (arith, c.number_length-digits.ensures, ap length (signed_minus a.ring.k a.c c.with_sign-s.result c.with_sign-s.ensures c.if-s.true))
 
 pub returns : goal.returns
 returns c =
     let a = c.args in
-    omega (arith, c.number_length-digits.ensures, ap length (signed_plus a.k a.c c.with_sign-s.result c.with_sign-s.ensures c.if-s.false))
+    omega (arith, c.number_length-digits.ensures, ap length (signed_plus a.ring.k a.c c.with_sign-s.result c.with_sign-s.ensures c.if-s.false))

@@ -1,27 +1,12 @@
-use native.Mathlib.Omega.{arith}
-use borrow.Author.Rules.{rules}
-use Rattle.writer.proofs.Digits.{counting_start, counting_last, counting_fits, counting_more, counting_end}
+-- `writer::measure::number_length` meets its contract: n is at least a power of ten, and below the next. No loop. Assumes nothing.
+use Rattle.std.proofs.Common.{sym, ap, arith}
+use lib.ListN.{length}
+use Rattle.paper.proofs.Numbers.{number_small}
+use Rattle.writer.proofs.Digits.{digits_are}
 use Rattle.writer.proofs.measure.number_length.Goals as goal
 
-pub loop-limit-init : goal.loop-limit-init
-loop-limit-init c = counting_start c.args.n
+pub returns-in-Some : goal.returns-in-Some
+returns-in-Some c = digits_are c.in-Some.tens c.args.n c.in-Some.ensures.power_le c.in-Some.ensures.next_power_gt
 
-pub returns-then-digits-eq-WORD_DIGITS : goal.returns-then-digits-eq-WORD_DIGITS
-returns-then-digits-eq-WORD_DIGITS c =
-    let l = c.loop-limit in
-    counting_last c.args.n l.digits l.limit l.invariant (search rules) (omega arith) (omega arith)
-
-pub overflow_mul-limit : goal.overflow_mul-limit
-overflow_mul-limit c =
-    let l = c.loop-limit in
-    record { fits = counting_fits c.args.n l.digits l.limit l.invariant (omega arith) }
-
-pub loop-limit-preserved : goal.loop-limit-preserved
-loop-limit-preserved c =
-    let l = c.loop-limit in
-    counting_more c.args.n l.digits l.limit l.invariant (omega arith) (omega arith)
-
-pub returns : goal.returns
-returns c =
-    let l = c.loop-limit in
-    counting_end c.args.n l.digits l.limit l.invariant (omega arith)
+pub returns-in-None : goal.returns-in-None
+returns-in-None c = sym (ap length (number_small c.args.n (omega (arith, c.in-None.ensures.none))))

@@ -15,7 +15,7 @@ pub returns-then-run_room-size : goal.returns-then-run_room-size
 returns-then-run_room-size c =
     let a = c.args in
     let p = decode a.n a.s.now in
-    sym (le-leb (length (spell a.k p)) a.size (omega (arith, c.run_room.ensures, run_most a.k p (omega arith) c.requires.4)))
+    sym (le-leb (length (spell a.ring.k p)) a.size (omega (arith, c.run_room.ensures, run_most a.ring.k p (omega arith) c.requires.2)))
 
 pub returns : goal.returns
 returns c = ap (λ (n : ℕ). leb n c.args.size) c.run_length.ensures

@@ -1,7 +1,7 @@
 -- `writer::measure::run_length` meets its contract. The loop's invariant: the sum and the terms from the i-th on make up the run.
--- The measure is the number of terms left. Assumes nothing.
+-- Assumes nothing.
 use mathlib.Core.Path.{◌≡◌}
-use Prim.Native.Nat.{◌+◌, ◌-◌, ◌≤◌}
+use Prim.Native.Nat.{◌+◌}
 use lib.ListN.{length}
 use Rattle.terms.specs.Terms.{decode}
 use Rattle.paper.specs.Spelling.{spell}
@@ -9,7 +9,4 @@ use Rattle.writer.proofs.Runs.{run_rest}
 use Rattle.writer.proofs.measure.run_length.Given as goal
 
 abbrev pub invariant-loop-i : goal.invariant-loop-i
-invariant-loop-i l = (l.i ≤ l.n) × (l.sum + length (run_rest l.k l.n l.s l.i) ≡ length (spell l.k (decode l.n l.s)))
-
-abbrev pub decreases-loop-i : goal.decreases-loop-i
-decreases-loop-i l = l.n - l.i
+invariant-loop-i l = l.sum + length (run_rest l.ring.k l.n l.s l.i) ≡ length (spell l.ring.k (decode l.n l.s))

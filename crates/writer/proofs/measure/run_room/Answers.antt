@@ -10,7 +10,7 @@ use Rattle.writer.proofs.Pieces.{members_few}
 use Rattle.writer.proofs.measure.run_room.Goals as goal
 
 pub loop-i-init : goal.loop-i-init
-loop-i-init c = (omega arith, room_start c.args.n c.args.s.now)
+loop-i-init c = room_start c.args.n c.args.s.now
 
 pub overflow_mul-sum : goal.overflow_mul-sum
 overflow_mul-sum c = record { fits = omega (arith, c.count.ensures, members_few variables 0 (number_of c.set_of.result)) }
@@ -34,13 +34,11 @@ overflow_add-sum-in-loop-i c =
 pub loop-i-preserved : goal.loop-i-preserved
 loop-i-preserved c =
     let a = c.args in
-    let l = c.loop-i in (
-      omega arith,
-      omega (
-        arith,
-        room_more a.n l.i a.s.now c.read_term-t.result c.count.result (omega arith) c.read_term-t.ensures
-            (c.count.ensures ∙ ap (λ (m : ℕ). length (members variables 0 m)) c.set_of.ensures),
-      ),
+    let l = c.loop-i in
+    omega (
+      arith,
+      room_more a.n l.i a.s.now c.read_term-t.result c.count.result (omega arith) c.read_term-t.ensures
+          (c.count.ensures ∙ ap (λ (m : ℕ). length (members variables 0 m)) c.set_of.ensures),
     )
 
 pub returns : goal.returns

@@ -1,7 +1,7 @@
 -- `writer::measure::run_room` meets its contract. The loop's invariant: the sum and the room of the terms from the i-th on make up that of the run.
--- The measure is the number of terms left. Assumes nothing.
+-- Assumes nothing.
 use mathlib.Core.Path.{◌≡◌}
-use Prim.Native.Nat.{◌+◌, ◌-◌, ◌≤◌}
+use Prim.Native.Nat.{◌+◌}
 use lib.ListN.{drop}
 use Rattle.ground.specs.Lists.{total}
 use Rattle.terms.specs.Terms.{decode}
@@ -9,7 +9,4 @@ use Rattle.writer.specs.Writing.{term_room, room}
 use Rattle.writer.proofs.measure.run_room.Given as goal
 
 abbrev pub invariant-loop-i : goal.invariant-loop-i
-invariant-loop-i l = (l.i ≤ l.n) × (l.sum + total term_room (drop l.i (decode l.n l.s)) ≡ room (decode l.n l.s))
-
-abbrev pub decreases-loop-i : goal.decreases-loop-i
-decreases-loop-i l = l.n - l.i
+invariant-loop-i l = l.sum + total term_room (drop l.i (decode l.n l.s)) ≡ room (decode l.n l.s)

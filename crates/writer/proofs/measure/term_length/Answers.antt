@@ -6,7 +6,7 @@ use Rattle.writer.proofs.Runs.{term_coef, term_length_pieces, term_most, term_ro
 use Rattle.writer.proofs.measure.term_length.Goals as goal
 
 pub coefficient_length-requires : goal.coefficient_length-requires
-coefficient_length-requires c = (omega arith, omega arith, term_coef c.args.k c.args.t c.requires.2)
+coefficient_length-requires c = term_coef c.args.ring.k c.args.t c.requires
 
 pub overflow_add-result : goal.overflow_add-result
 overflow_add-result c =
@@ -17,8 +17,8 @@ overflow_add-result c =
         arith,
         c.set_length.ensures,
         c.coefficient_length.ensures,
-        term_length_pieces a.k a.t c.set_of.result c.set_of.ensures,
-        term_most a.k t (omega arith) c.requires.2,
+        term_length_pieces a.ring.k a.t c.set_of.result c.set_of.ensures,
+        term_most a.ring.k t (omega arith) c.requires,
         term_room_most t,
       );
     }
@@ -26,4 +26,4 @@ overflow_add-result c =
 pub returns : goal.returns
 returns c =
     let a = c.args in
-    omega (arith, c.set_length.ensures, c.coefficient_length.ensures, term_length_pieces a.k a.t c.set_of.result c.set_of.ensures)
+    omega (arith, c.set_length.ensures, c.coefficient_length.ensures, term_length_pieces a.ring.k a.t c.set_of.result c.set_of.ensures)

@@ -8,9 +8,9 @@ use Rattle.writer.proofs.sign.with_sign.Goals as goal
 pub returns-then-c-half : goal.returns-then-c-half
 returns-then-c-half c =
     let a = c.args in
-    sign_plus a.k a.c (omega arith) (omega arith) (omega arith)
+    sign_plus a.ring.k a.c (omega arith) (omega arith) (omega arith)
 
 pub returns : goal.returns
 returns c =
     let a = c.args in
-    sign_minus a.k a.c (omega arith) (omega arith) c.negative.result c.cut.result (omega arith) c.negative.ensures c.cut.ensures (omega arith) (search rules)
+    sign_minus a.ring.k a.c (omega arith) (omega arith) c.negative.result c.cut.result (omega arith) c.negative.ensures c.cut.ensures (omega arith) (search rules)

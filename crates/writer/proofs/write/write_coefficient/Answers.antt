@@ -10,12 +10,12 @@ use Rattle.writer.proofs.write.write_coefficient.Goals as goal
 pub bounds-out-at : goal.bounds-out-at
 bounds-out-at c =
     let a = c.args in
-    omega (arith, ap length (signed_minus a.k a.c c.with_sign-s.result c.with_sign-s.ensures c.if-s.true))
+    omega (arith, ap length (signed_minus a.ring.k a.c c.with_sign-s.result c.with_sign-s.ensures c.if-s.true))
 
 pub write_number-requires : goal.write_number-requires
 write_number-requires c =
     let a = c.args in
-    let w = ap length (signed_minus a.k a.c c.with_sign-s.result c.with_sign-s.ensures c.if-s.true) in
+    let w = ap length (signed_minus a.ring.k a.c c.with_sign-s.result c.with_sign-s.ensures c.if-s.true) in
     simp length-set (omega (arith, w))
 
 pub shape_of-out-then-s : goal.shape_of-out-then-s
@@ -24,15 +24,15 @@ shape_of-out-then-s c = c.write_number.auto.out ∙ simp length-set
 pub returns-then-s : goal.returns-then-s
 returns-then-s c =
     let a = c.args in
-    let w = signed_minus a.k a.c c.with_sign-s.result c.with_sign-s.ensures c.if-s.true in
+    let w = signed_minus a.ring.k a.c c.with_sign-s.result c.with_sign-s.ensures c.if-s.true in
     wrote_as w (wrote_both (omega arith) (wrote_byte a.out.now a.at 45 (omega (arith, ap length w))) c.write_number.ensures)
 
 pub write_number-requires-2 : goal.write_number-requires-2
 write_number-requires-2 c =
     let a = c.args in
-    omega (arith, ap length (signed_plus a.k a.c c.with_sign-s.result c.with_sign-s.ensures c.if-s.false))
+    omega (arith, ap length (signed_plus a.ring.k a.c c.with_sign-s.result c.with_sign-s.ensures c.if-s.false))
 
 pub returns : goal.returns
 returns c =
     let a = c.args in
-    wrote_as (signed_plus a.k a.c c.with_sign-s.result c.with_sign-s.ensures c.if-s.false) c.write_number-2.ensures
+    wrote_as (signed_plus a.ring.k a.c c.with_sign-s.result c.with_sign-s.ensures c.if-s.false) c.write_number-2.ensures

@@ -1,10 +1,6 @@
--- `writer::write::write_number` meets its contract. The loop's invariant: once left is written from the place at on, n is; i is the place of left's last digit.
--- The measure is left. Assumes nothing.
+-- `writer::write::write_number` meets its contract. The loop's invariant: once left is written from the place at on, n is, and left ends before i. Assumes nothing.
 use Rattle.writer.proofs.Digits.{Back}
 use Rattle.writer.proofs.write.write_number.Given as goal
 
-abbrev pub invariant-loop-left : goal.invariant-loop-left
-invariant-loop-left l = Back l.initial.out l.at l.n l.out l.i l.left
-
-abbrev pub decreases-loop-left : goal.decreases-loop-left
-decreases-loop-left l = l.left
+abbrev pub invariant-loop-i : goal.invariant-loop-i
+invariant-loop-i l = Back l.fn.out l.at l.n l.out l.i l.left

@@ -14,24 +14,24 @@ use Rattle.writer.proofs.write.write_set.Goals as goal
 pub loop-i-init : goal.loop-i-init
 loop-i-init c =
     let a = c.args in
-    (omega arith, left_as (set_start a.a (search rules)) (left_start a.out.now a.at (gather dotted (members variables 0 (number_of a.a)))))
+    left_as (set_start a.a (search rules)) (left_start a.out.now a.at (gather dotted (members variables 0 (number_of a.a))))
 
 pub write_word-end-requires : goal.write_word-end-requires
 write_word-end-requires c =
     let a = c.args in
     let l = c.loop-i in
-    (omega arith, left_room (gather dotted (members 64 (64 * l.i) (get_or a.a l.i 0))) (set_rest a.a (l.i + 1)) (omega arith) (set_more a.a l.i (λ i. search rules) (search rules)) l.invariant.1)
+    (omega arith, left_room (gather dotted (members 64 (64 * l.i) (get_or a.a l.i 0))) (set_rest a.a (l.i + 1)) (omega arith) (set_more a.a l.i (λ i. search rules) (search rules)) l.invariant)
 
 pub loop-i-preserved : goal.loop-i-preserved
 loop-i-preserved c =
     let a = c.args in
     let l = c.loop-i in
-    (omega arith, left_more (omega arith) (set_more a.a l.i (λ i. search rules) (search rules)) l.invariant.1 c.write_word-end.ensures)
+    left_more (omega arith) (set_more a.a l.i (λ i. search rules) (search rules)) l.invariant c.write_word-end.ensures
 
 pub returns : goal.returns
 returns c =
     let l = c.loop-i in
-    left_end (set_end c.args.a l.i (search rules)) l.invariant.1
+    left_end (set_end c.args.a l.i (search rules)) l.invariant
 
 pub shape_of-out : goal.shape_of-out
-shape_of-out c = c.loop-i.invariant.1.same
+shape_of-out c = c.loop-i.invariant.same

@@ -6,11 +6,6 @@ use lib.ListN.{length-set}
 use Rattle.writer.proofs.Written.{wrote_byte, wrote_both}
 use Rattle.writer.proofs.write.write_spaced.Goals as goal
 
-pub write_term-requires : goal.write_term-requires
-write_term-requires c =
-    let l = length-set c.args.out.now c.args.at 32 in
-    (omega arith, omega arith, c.requires.2, omega (arith, l, c.requires.3))
-
 pub shape_of-out : goal.shape_of-out
 shape_of-out c = c.write_term.auto.out ∙ simp length-set
 

@@ -9,15 +9,15 @@ use Rattle.writer.proofs.write.write_term.Goals as goal
 pub write_coefficient-end-requires : goal.write_coefficient-end-requires
 write_coefficient-end-requires c =
     let a = c.args in
-    (omega arith, omega arith, term_coef a.k a.t c.requires.2, omega (arith, term_length_pieces a.k a.t c.set_of-a.result c.set_of-a.ensures))
+    (term_coef a.ring.k a.t c.requires.0, omega (arith, term_length_pieces a.ring.k a.t c.set_of-a.result c.set_of-a.ensures))
 
 pub write_set-requires : goal.write_set-requires
 write_set-requires c =
     let a = c.args in
-    omega (arith, c.write_coefficient-end.ensures.next, c.write_coefficient-end.auto.out, term_length_pieces a.k a.t c.set_of-a.result c.set_of-a.ensures, c.requires.3)
+    omega (arith, c.write_coefficient-end.ensures.next, c.write_coefficient-end.auto.out, term_length_pieces a.ring.k a.t c.set_of-a.result c.set_of-a.ensures, c.requires.1)
 
 pub returns : goal.returns
 returns c =
     let a = c.args in
-    wrote_as (sym (term_pieces a.k a.t c.set_of-a.result c.set_of-a.ensures))
-    (wrote_both (omega (arith, c.requires.3)) c.write_coefficient-end.ensures c.write_set.ensures)
+    wrote_as (sym (term_pieces a.ring.k a.t c.set_of-a.result c.set_of-a.ensures))
+    (wrote_both (omega (arith, c.requires.1)) c.write_coefficient-end.ensures c.write_set.ensures)

@@ -1,8 +1,0 @@
-use native.Mathlib.Omega.{arith}
-use Rattle.names.proofs.hint_of.Goals as goal
-
-pub overflow_cast-h : goal.overflow_cast-h
-overflow_cast-h c = omega (arith, c.shared_slice_known-1.given c.loop-j.j)
-
-pub overflow_add-h : goal.overflow_add-h
-overflow_add-h c = omega (arith, c.shared_slice_known-1.given c.loop-j.j)
