@@ -48,14 +48,12 @@ pub const HOST_SCRATCH: usize = LEAST_SCRATCH;
 
 pub const HOST_TEXT_BYTES: usize = 65536;
 
-// ---- verdicts
+// ---- verdicts that stand as numbers: those on what is written, and those of a text as a whole. Every refusal is a `Refusal`
 pub const ACCEPTED: u64 = 0;
 
 pub const SHORT: u64 = 1;
 
 pub const LONGTEXT: u64 = 2;
-
-pub const LONGLINE: u64 = 3;
 
 pub const FORM: u64 = 4;
 
@@ -63,25 +61,6 @@ pub const NUMBER: u64 = 5;
 
 pub const TERMS: u64 = 6;
 
-pub const ORDER: u64 = 7;
-
-pub const TAKEN: u64 = 8;
-
-pub const MISSING: u64 = 9;
-
-pub const SEEN: u64 = 10;
-
-pub const PRODUCTS: u64 = 11;
-
-pub const MISMATCH: u64 = 12;
-
-pub const NOTBIT: u64 = 13;
-
-pub const FULL: u64 = 14;
-
 pub const NOGOAL: u64 = 15;
 
 pub const NOTREACHED: u64 = 16;
-
-// Of published texts, directly after TERMS.
-pub const NAMES: u64 = 17;

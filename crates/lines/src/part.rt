@@ -12,7 +12,7 @@ use reader::number::number_at;
 use reader::stop::Stop;
 use reader::verdict::lesser;
 
-// A number behind a tab.
+// A number of a line, or 0 where it is out of its range.
 #[derive(Drop)]
 pub(crate) struct NumberRead {
     pub value: u32,

@@ -46,9 +46,7 @@ fn spell_line(line: &[u8], scratch: &mut [u64], out: &mut [u8]) -> Result<usize,
 
 // Writes an answer, and tells whether it was written.
 fn say<W: Write>(to: &mut W, verdict: u64, spelling: &[u8]) -> bool {
-    write!(to, "{verdict}\t").is_ok()
-        && to.write_all(spelling).is_ok()
-        && to.write_all(b"\n").is_ok()
+    write!(to, "{verdict}\t").is_ok() & to.write_all(spelling).is_ok() & to.write_all(b"\n").is_ok()
 }
 
 // Answers a line.

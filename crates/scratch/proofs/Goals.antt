@@ -15,8 +15,7 @@ use Rattle.algebra.specs.Polynomial.{Poly, equal}
 use Rattle.terms.specs.Terms.{decode}
 use Rattle.terms.proofs.Decode.{decode_paste}
 use Rattle.paper.specs.Rules.{Entry, Store, holds_goal}
-use Rattle.table.specs.declared.Table.{Table}
-use Rattle.table.specs.Table.{firsts, entry_at, store_of}
+use Rattle.table.specs.Table.{firsts, poly_at, entry_at, store_of_columns}
 use Rattle.table.proofs.Firsts.{behind, firsts_more, firsts_split}
 use Rattle.scratch.specs.Scratch.{stated_at, goal_at, RunAt}
 
@@ -31,29 +30,34 @@ unfolding holds_goal any
 holds_append g [] t = refl
 holds_append g (e ∷ s) t = ap (λ (b : Bool). equal e.poly g || b) (holds_append g s t) ∙ sym (or_assoc (equal e.poly g) (holds_goal g s) (holds_goal g t))
 
-module _ (t : Table) (pool : List ℕ) (g : Poly) where
-  abbrev at : ℕ → Entry
-  at = entry_at t.indices t.starts t.counts pool
+-- none of the first j is g, whatever their indices
+pub record NoneIs (starts counts pool : List ℕ) (g : Poly) (j : ℕ) : Type 0 where
+  pub under : (indices : List ℕ) → holds_goal g (store_of_columns indices starts counts pool j) ≡ false
 
-  -- none of the first j is g
-  abbrev pub NoneIs : ℕ → Type 0
-  NoneIs j = holds_goal g (firsts at j) ≡ false
-
-  pub none_start : NoneIs 0
+module _ {starts counts pool : List ℕ} {g : Poly} where
+  pub none_start : NoneIs starts counts pool g 0
   unfolding holds_goal firsts any
-  none_start = refl
+  none_start = record { under = λ indices. refl }
 
-  -- b tells whether the j-th is g
-  module _ (j : ℕ) (none : NoneIs j) {b : Bool} (e : b ≡ equal (at j).poly g) where
-    pub none_more : b ≡ false → NoneIs (j + 1)
+  -- t tells whether the j-th is g
+  module _ {j : ℕ} {t : Bool} (e : t ≡ equal (poly_at starts counts pool j) g) (none : NoneIs starts counts pool g j) where
+    pub none_more : t ≡ false → NoneIs starts counts pool g (j + 1)
     unfolding holds_goal any
-    none_more f =
-        ap (holds_goal g) (firsts_more at j) ∙ holds_append g (firsts at j) (at j ∷ []) ∙ rw (none, ← e, f)
+    none_more f = record { under = more }
+      where
+        more : (indices : List ℕ) → holds_goal g (store_of_columns indices starts counts pool (j + 1)) ≡ false
+        more indices =
+            let at : ℕ → Entry = entry_at indices starts counts pool in
+            ap (holds_goal g) (firsts_more at j) ∙ holds_append g (firsts at j) (at j ∷ []) ∙ rw (none.under indices, ← e, f)
 
-    pub one_is : j < t.stored → b ≡ true → true ≡ holds_goal g (store_of t pool)
+    pub one_is : (stored : ℕ) → j < stored → t ≡ true → (indices : List ℕ) → true ≡ holds_goal g (store_of_columns indices starts counts pool stored)
     unfolding holds_goal any
-    one_is h f =
-        sym (ap (holds_goal g) (firsts_split at j t.stored h) ∙ holds_append g (firsts at j) (at j ∷ behind at j t.stored) ∙ rw (none, ← e, f))
+    one_is stored h f indices =
+        let at : ℕ → Entry = entry_at indices starts counts pool in
+        sym (ap (holds_goal g) (firsts_split at j stored h) ∙ holds_append g (firsts at j) (at j ∷ behind at j stored) ∙ rw (none.under indices, ← e, f))
+
+  pub none_end : {j stored : ℕ} → j ≡ stored → NoneIs starts counts pool g j → (indices : List ℕ) → false ≡ holds_goal g (store_of_columns indices starts counts pool stored)
+  none_end e none indices = sym (subst (λ (n : ℕ). holds_goal g (store_of_columns indices starts counts pool n) ≡ false) e (none.under indices))
 
 -- ---- the goal's region
 pub copied : {n : ℕ} {s r : List ℕ} → n ≤ field_terms → least_scratch ≤ length s → r ≡ copy_within s stated_at (stated_at + n * term_words) goal_at

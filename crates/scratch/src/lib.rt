@@ -2,7 +2,7 @@
 
 #![tactic(auto)]
 
-ghost use Rattle.std.specs.Prelude.{◌≡◌, ℕ, ◌+◌, ◌*◌, ◌≤◌, ◌<◌, length, drop};
+ghost use Rattle.std.specs.Prelude.{◌≡◌, List, ℕ, ◌+◌, ◌*◌, ◌≤◌, ◌<◌, length, drop};
 ghost use Rattle.words.specs.Parts.{Within};
 ghost use Rattle.limits.specs.Limits.{field_terms, line_products, term_words, variables, least_scratch};
 ghost use Rattle.algebra.specs.Polynomial.{equal, products, product, extension};
@@ -10,7 +10,7 @@ ghost use Rattle.terms.specs.Terms.{decode, rounded, Leaves, Appended};
 ghost use Rattle.paper.specs.Statement.{Written};
 ghost use Rattle.paper.specs.Rules.{holds_goal};
 ghost use Rattle.written.specs.Worded.{Holds};
-ghost use Rattle.table.specs.Table.{PackedColumns, store_of};
+ghost use Rattle.table.specs.Table.{PackedColumns, store_of_columns};
 ghost use Rattle.scratch.specs.Scratch.{stated_at, goal_at, RunAt, ReducedAt};
 
 use table::Table;
@@ -59,7 +59,7 @@ pub fn copy_to_goal(scratch: &mut [u64], n: usize)
 pub fn is_stored(table: &Table, pool: &[u64], goal: &[u64], n: usize) -> bool
     requires { ((used : ℕ) × PackedColumns table.now.starts table.now.counts table.now.stored used × (used * term_words ≤ length pool.now))
         × (n * term_words ≤ length goal.now) }
-    ensures { result ≡ holds_goal (decode n goal.now) (store_of table.now pool.now) }
+    ensures { (indices : List ℕ) → result ≡ holds_goal (decode n goal.now) (store_of_columns indices table.now.starts table.now.counts pool.now table.now.stored) }
 {
     for j in 0..table.stored {
         let at = table.starts[j] as usize * limits::TERM_WORDS;

@@ -1,4 +1,4 @@
-// What the steps look at besides the state: columns and words.
+// What the steps look at besides the state: the table, and words.
 ghost use Rattle.std.specs.Prelude.{◌≡◌, ◌||◌, List, ℕ, ◌*◌, ◌+◌, ◌^◌, ◌≤◌, ◌<◌, length, drop};
 ghost use Rattle.std.specs.Int.Bits.{bit_or};
 ghost use Rattle.limits.specs.Limits.{stored_polynomials, field_terms, term_words, variables, least_scratch, most_pool_terms};

@@ -2,6 +2,8 @@
 
 #![tactic(auto)]
 
+pub mod stored;
+
 ghost use Rattle.std.specs.Prelude.{◌≡◌, ℕ, ◌+◌, ◌≤◌, ◌<◌, length, get_or};
 ghost use Rattle.std.specs.List.{copy_within};
 ghost use Rattle.limits.specs.Limits.{stored_polynomials};
@@ -9,8 +11,6 @@ ghost use Rattle.table.specs.Table.{Packed};
 ghost use Rattle.table.specs.Columns.{Finds, Shifted, Lowered, Fresh, Pushable, Added, Pushed, Removable, Removed, Forgotten};
 
 use words::search;
-
-pub mod stored;
 
 pub type Indices = [u32; limits::STORED_POLYNOMIALS];
 
@@ -104,7 +104,7 @@ fn lower(column: &mut Starts, j: usize, n: usize, fall: u16)
 }
 
 // Moves those behind at + len, up to used, down to at.
-fn close_gap<T: Copy>(run: &mut [T], at: usize, len: usize, used: usize)
+pub fn close_gap<T: Copy>(run: &mut [T], at: usize, len: usize, used: usize)
     requires { (at + len ≤ used) × (used ≤ length run.old) }
     ensures moved { run.new ≡ copy_within run.old (at + len) used at }
     ensures by_index { Shifted run.old at len used run.new }

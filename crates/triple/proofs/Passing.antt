@@ -150,13 +150,19 @@ module _ {capacity k : ℕ} (t : Texts) {m : Numbering} {s : State} {pool scratc
         places = λ _. ap (λ (n : ℕ). with_names (held n m.room.now) (names_from is)) (sym z);
       })
 
+  -- where nothing is refused and names are taken as plain, they are
+  pub plain_same : {m' : Numbering} {s' : State} {pool' scratch' : List ℕ} {most : ℕ} → Onward capacity (named_items t) m s pool scratch [] m' s' pool' scratch' most
+      → m.plain ≡ true → all_plain (named_items t) ≡ true
+  unfolding readable gather every
+  plain_same o p = ap all_plain (sym (append-nil (named_items t))) ∙ o.plainly p []
+
   pub passed : {a : Answer} {m' : Numbering} {s' : State} {pool' scratch' : List ℕ} {most : ℕ} → Onward capacity (named_items t) m s pool scratch [] m' s' pool' scratch' most
       → ((pool scratch : List ℕ) → answer_of a ≡ ending (state_of s' pool scratch) s'.lines) → PassIs m.plain capacity k t (Ok a)
   unfolding run readable gather every
   passed {pool' = pool'} {scratch'} o e =
       record {
         answer = λ p. e pool' scratch' ∙ sym (o.onward (all_names t) (answer_in capacity k t) [] (at_first p)).same;
-        stood = λ p _ _. ap all_plain (sym (append-nil (named_items t))) ∙ o.plainly p [];
+        stood = λ p _ _. plain_same o p;
       }
 
   pub turned : {a : Answer} {r : Refused} {m' : Numbering} {s' : State} {most : ℕ} → Turned capacity (named_items t) m s pool scratch r m' s' most

@@ -74,10 +74,11 @@ pub record Sets (us ws : List ℕ) : Type 0 where
   pub right : Words ws
 
 -- from the highest word down: the words above i are equal, and word i comes next
-module _ {us ws : List ℕ} (a : Sets us ws) (i : ℕ) (inside : i < length us) (above : drop (suc i) us ≡ drop (suc i) ws) where
+module _ (us ws : List ℕ) (same : length us ≡ length ws) (i : ℕ) (inside : i < length us) (above : drop (suc i) us ≡ drop (suc i) ws) where
   pub order_next : get_or us i 0 ≡ get_or ws i 0 → drop i us ≡ drop i ws
-  order_next e = drop-cons us i 0 inside ∙ ap₂ ◌∷◌ e above ∙ sym (drop-cons ws i 0 (omega (arith, a.same)))
+  order_next e = drop-cons us i 0 inside ∙ ap₂ ◌∷◌ e above ∙ sym (drop-cons ws i 0 (omega (arith, same)))
 
+module _ {us ws : List ℕ} (a : Sets us ws) (i : ℕ) (inside : i < length us) (above : drop (suc i) us ≡ drop (suc i) ws) where
   -- it decides, where it differs
   pub order_decides : (get_or us i 0 ≡ get_or ws i 0 → ⊥) → (r : Ordering) → r ≡ order_of (get_or us i 0) (get_or ws i 0)
       → r ≡ order_of (number_of us) (number_of ws)

@@ -3,6 +3,7 @@
 #![tactic(auto)]
 
 pub mod ring;
+pub mod search;
 
 ghost use Rattle.std.specs.Prelude.{◌≡◌, ℕ, ◌+◌, ◌-◌, ◌*◌, ◌%◌, ◌^◌, ◌<◌, ◌≤◌, length, replicate, bit_or};
 ghost use Rattle.limits.specs.Limits.{variables};
@@ -10,8 +11,6 @@ ghost use Rattle.algebra.specs.Polynomial.{has, members};
 ghost use Rattle.words.specs.Words.{number_of, order_of, Lowest};
 
 use std::cmp::Ordering;
-
-pub mod search;
 
 // A set of variables, its lowest word first.
 pub type Set = [u64; limits::SET_WORDS];

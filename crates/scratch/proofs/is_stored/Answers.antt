@@ -7,7 +7,7 @@ use Rattle.limits.specs.Limits.{term_words}
 use Rattle.terms.specs.Terms.{decode}
 use Rattle.terms.proofs.Runs.{rest_run}
 use Rattle.table.proofs.Packing.{ends_used}
-use Rattle.scratch.proofs.Goals.{none_start, none_more, one_is}
+use Rattle.scratch.proofs.Goals.{none_start, none_more, one_is, none_end}
 use Rattle.scratch.proofs.is_stored.Goals as goal
 use Rattle.scratch.proofs.is_stored.Goals.{In-loop-j}
 
@@ -21,7 +21,7 @@ inside c =
     omega (arith, ends_used t.starts t.counts t.stored h.0 c.loop-j.j h.1 c.loop-j-test.true, h.2)
 
 pub loop-j-init : goal.loop-j-init
-loop-j-init c = none_start c.args.table.now c.args.pool.now (decode c.args.n c.args.goal.now)
+loop-j-init c = none_start
 
 pub slice_bounds-same_run-count : goal.slice_bounds-same_run-count
 slice_bounds-same_run-count c = let e = inside (goal.at.slice_bounds-same_run-count c).In-loop-j in search rules
@@ -37,8 +37,11 @@ same_run-requires c =
 
 pub returns-then-same_run : goal.returns-then-same_run
 returns-then-same_run c =
-    one_is c.args.table.now c.args.pool.now _ c.loop-j.j c.loop-j.invariant (rest_run _ _ c.args.pool.now _ _ c.same_run.ensures) c.loop-j-test.true c.if-same_run.true
+    one_is (rest_run _ _ c.args.pool.now _ _ c.same_run.ensures) c.loop-j.invariant c.args.table.now.stored c.loop-j-test.true c.if-same_run.true
 
 pub loop-j-preserved : goal.loop-j-preserved
 loop-j-preserved c =
-    none_more c.args.table.now c.args.pool.now _ c.loop-j.j c.loop-j.invariant (rest_run _ _ c.args.pool.now _ _ c.same_run.ensures) c.if-same_run.false
+    none_more (rest_run _ _ c.args.pool.now _ _ c.same_run.ensures) c.loop-j.invariant c.if-same_run.false
+
+pub returns : goal.returns
+returns c = none_end (omega arith) c.loop-j.invariant

@@ -13,16 +13,16 @@ above₄ : (c : Start) → drop 5 c.args.a ≡ drop 5 c.args.b
 above₄ c = drop_of_length-le c.args.a {i = set_words} (search rules) ∙ sym (drop_of_length-le c.args.b {i = set_words} (search rules))
 
 above₃ : (c : Else-a-b) → drop 4 c.args.a ≡ drop 4 c.args.b
-above₃ c = let b = c.before in order_next (sets b) 4 (search rules) (above₄ b) c.if-a-b.false
+above₃ c = let b = c.before in order_next _ _ (sets b).same 4 (search rules) (above₄ b) c.if-a-b.false
 
 above₂ : (c : Else-a-b-2) → drop 3 c.args.a ≡ drop 3 c.args.b
-above₂ c = let b = c.before in order_next (sets b.before) 3 (search rules) (above₃ b) c.if-a-b-2.false
+above₂ c = let b = c.before in order_next _ _ (sets b.before).same 3 (search rules) (above₃ b) c.if-a-b-2.false
 
 above₁ : (c : Else-a-b-3) → drop 2 c.args.a ≡ drop 2 c.args.b
-above₁ c = let b = c.before in order_next (sets b.before.before) 2 (search rules) (above₂ b) c.if-a-b-3.false
+above₁ c = let b = c.before in order_next _ _ (sets b.before.before).same 2 (search rules) (above₂ b) c.if-a-b-3.false
 
 above₀ : (c : Else-a-b-4) → drop 1 c.args.a ≡ drop 1 c.args.b
-above₀ c = let b = c.before in order_next (sets b.before.before.before) 1 (search rules) (above₁ b) c.if-a-b-4.false
+above₀ c = let b = c.before in order_next _ _ (sets b.before.before.before).same 1 (search rules) (above₁ b) c.if-a-b-4.false
 
 pub returns-then-a-b : goal.returns-then-a-b
 returns-then-a-b c =

@@ -14,4 +14,4 @@ is_stored-self-requires c =
 
 pub returns : goal.returns
 returns c =
-    λ capacity room p h. goal_stands room c.if-self-ne-INPUTS.false (c.reduce_field-f.ensures p h) c.copy_to_goal.ensures c.union-seen.ensures c.is_stored-self.ensures
+    λ capacity room p h. goal_stands room c.if-self-ne-INPUTS.false (c.reduce_field-f.ensures p h) c.copy_to_goal.ensures c.union-seen.ensures (c.is_stored-self.ensures c.args.self.now.table.indices)
