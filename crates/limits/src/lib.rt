@@ -4,6 +4,8 @@
 
 pub mod refusal;
 
+use refusal::Refusal;
+
 // ---- the width: a set of variables in 64-bit words, and a term, which is its set and then its coefficient
 pub const SET_WORDS: usize = 5;
 
@@ -51,16 +53,16 @@ pub const HOST_TEXT_BYTES: usize = 65536;
 // ---- verdicts that stand as numbers: those on what is written, and those of a text as a whole. Every refusal is a `Refusal`
 pub const ACCEPTED: u64 = 0;
 
-pub const SHORT: u64 = 1;
+pub const SHORT: u64 = Refusal::Short as u64;
 
-pub const LONGTEXT: u64 = 2;
+pub const LONGTEXT: u64 = Refusal::LongText as u64;
 
-pub const FORM: u64 = 4;
+pub const FORM: u64 = Refusal::Form as u64;
 
-pub const NUMBER: u64 = 5;
+pub const NUMBER: u64 = Refusal::Number as u64;
 
-pub const TERMS: u64 = 6;
+pub const TERMS: u64 = Refusal::Terms as u64;
 
-pub const NOGOAL: u64 = 15;
+pub const NOGOAL: u64 = Refusal::NoGoal as u64;
 
-pub const NOTREACHED: u64 = 16;
+pub const NOTREACHED: u64 = Refusal::NotReached as u64;
