@@ -4,6 +4,7 @@ ghost use Rattle.std.specs.Int.Bits.{bit_or};
 ghost use Rattle.limits.specs.Limits.{variables};
 ghost use Rattle.words.specs.Words.{number_of};
 ghost use Rattle.paper.specs.Grammar.{is_digit};
+ghost use Rattle.names.specs.Numbered.{StillLent};
 ghost use Rattle.named.specs.Reads.{is_at, NamesIs, ConstantIs, MonomialIs};
 
 use super::name::read_name;
@@ -57,6 +58,7 @@ fn read_names(names: &mut Numbering<'_>, s: &[u8], at: usize, first: Set) -> Res
     requires { at ≤ length s.now }
     ensures read { NamesIs names.old names.new s.now at (number_of first) result }
     ensures plain { names.new.plain ≡ names.old.plain }
+    ensures lent { StillLent names.old names.new }
 {
     let mut set = first;
     let mut bad = false;
@@ -101,6 +103,7 @@ fn behind_constant(
     requires { is_at is_digit s.now at ≡ true }
     ensures read { MonomialIs names.old names.new negative s.now at result }
     ensures plain { names.new.plain ≡ names.old.plain }
+    ensures lent { StillLent names.old names.new }
 {
     let c = read_constant(s, at)?;
     let vs = read_names(names, s, c.end, [0; limits::SET_WORDS])?;
@@ -123,6 +126,7 @@ fn of_names(
     requires { (at ≤ length s.now) × (is_at is_digit s.now at ≡ false) }
     ensures read { MonomialIs names.old names.new negative s.now at result }
     ensures plain { names.new.plain ≡ names.old.plain }
+    ensures lent { StillLent names.old names.new }
 {
     let v = read_name(names, s, at)?;
     let one = with_number([0; limits::SET_WORDS], v.number);
@@ -146,6 +150,7 @@ pub fn read_monomial(
     requires { at ≤ length s.now }
     ensures read { MonomialIs names.old names.new negative s.now at result }
     ensures plain { names.new.plain ≡ names.old.plain }
+    ensures lent { StillLent names.old names.new }
 {
     if digit_at(s, at) {
         return behind_constant(names, s, at, negative);

@@ -3,6 +3,7 @@ ghost use Rattle.std.specs.Prelude.{◌≡◌, ◌-◌, ◌≤◌, length};
 ghost use Rattle.words.specs.Parts.{part};
 ghost use Rattle.paper.specs.Published.{is_letter, name_rest};
 ghost use Rattle.reader.specs.Places.{Got};
+ghost use Rattle.names.specs.Numbered.{StillLent};
 ghost use Rattle.named.specs.Reads.{is_at, NameIs};
 
 use super::token::skip_spaces;
@@ -41,6 +42,7 @@ pub fn read_name(names: &mut Numbering<'_>, s: &[u8], at: usize) -> Result<NameR
     requires { at ≤ length s.now }
     ensures read { NameIs names.old names.new s.now at result }
     ensures plain { names.new.plain ≡ names.old.plain }
+    ensures lent { StillLent names.old names.new }
 {
     if !letter_at(s, at) {
         return Err(Stop { at });

@@ -4,6 +4,7 @@ ghost use Rattle.limits.specs.Limits.{field_terms, term_words};
 ghost use Rattle.paper.specs.Published.{minus};
 ghost use Rattle.reader.specs.Places.{Got};
 ghost use Rattle.reader.specs.Fields.{stands_at};
+ghost use Rattle.names.specs.Numbered.{StillLent};
 ghost use Rattle.named.specs.Reads.{MonomialsIs, PolyIs};
 
 use super::monomial::read_monomial;
@@ -32,6 +33,7 @@ fn read_rest(
     requires { (at ≤ length s.now) × (field_terms * term_words ≤ length out.old) }
     ensures read { MonomialsIs names.old names.new s.now at out.old out.new result }
     ensures plain { names.new.plain ≡ names.old.plain }
+    ensures lent { StillLent names.old names.new }
 {
     let mut terms: usize = 1;
     let mut why = limits::ACCEPTED;
@@ -74,6 +76,7 @@ pub fn read_poly(
     requires { (at ≤ length s.now) × (field_terms * term_words ≤ length out.old) }
     ensures read { PolyIs names.old names.new s.now at out.old out.new result }
     ensures plain { names.new.plain ≡ names.old.plain }
+    ensures lent { StillLent names.old names.new }
 {
     let negative = stands_at(s, at, b'-');
     let m = read_monomial(names, s, behind_minus(s, at, negative), negative)?;

@@ -15,11 +15,12 @@ pub struct Numbering<'a> {
 }
 
 impl Numbering<'_> {
-    ghost use Rattle.names.specs.Numbered.{NumberedIs};
+    ghost use Rattle.names.specs.Numbered.{NumberedIs, StillLent};
 
     // The number of a name: plain, or by its place. A bad name has none: one that is not plain, or one that is too long or a name too many.
     pub fn number(&mut self, s: &[u8]) -> Option<usize>
-        ensures { NumberedIs self.old self.new s.now result }
+        ensures numbered { NumberedIs self.old self.new s.now result }
+        ensures lent { StillLent self.old self.new }
     {
         if self.plain {
             return super::plain_number(s);

@@ -6,6 +6,7 @@ ghost use Rattle.paper.specs.Statement.{Written, Pair};
 ghost use Rattle.paper.specs.Published.{summand, summands};
 ghost use Rattle.written.specs.Worded.{Holds};
 ghost use Rattle.reader.specs.Verdicts.{lesser_of};
+ghost use Rattle.names.specs.Numbered.{StillLent};
 ghost use Rattle.scratch.specs.Scratch.{factor_at, Kept};
 ghost use Rattle.table.specs.Stores.{store_in};
 ghost use Rattle.sums.specs.Sums.{Summed};
@@ -84,6 +85,7 @@ fn add_summand(
         × (so_far.why ≡ ACCEPTED → so_far.bad ≡ false → (qs : List Pair) × Summed stored.now.ring (store_in stored.now) qs scratch.old so_far.sum) }
     ensures read { AddedIs stored.now.ring (store_in stored.now) summand names.old names.new s.now at scratch.old scratch.new so_far result }
     ensures plain { names.new.plain ≡ names.old.plain }
+    ensures lent { StillLent names.old names.new }
 {
     let q = read_summand(names, s, at, scratch)?;
     Ok(so_far.with(stored, scratch, q))
@@ -100,6 +102,7 @@ pub(crate) fn read_sum(
     requires { (at ≤ length s.now) × (least_scratch ≤ length scratch.old) }
     ensures read { SumIs stored.now.ring (store_in stored.now) summands names.old names.new s.now at scratch.old scratch.new result }
     ensures plain { names.new.plain ≡ names.old.plain }
+    ensures lent { StillLent names.old names.new }
 {
     let mut r = add_summand(stored, names, s, at, scratch, SumRead::none(at))?;
     while stands_at(s, r.end, b'+') {

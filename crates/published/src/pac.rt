@@ -5,6 +5,7 @@ ghost use Rattle.limits.specs.Verdicts.{ACCEPTED};
 ghost use Rattle.paper.specs.Statement.{Pair};
 ghost use Rattle.paper.specs.Published.{addends, multiplied};
 ghost use Rattle.reader.specs.Verdicts.{lesser_of};
+ghost use Rattle.names.specs.Numbered.{StillLent};
 ghost use Rattle.names.specs.declared.numbering.Numbering.{Numbering};
 ghost use Rattle.table.specs.Stores.{store_in};
 ghost use Rattle.sums.specs.Sums.{Summed};
@@ -27,6 +28,7 @@ fn read_multiplied_pair(
     requires { (at ≤ length s.now) × (least_scratch ≤ length scratch.old) }
     ensures read { SummandIs multiplied_pair names.old names.new s.now at scratch.old scratch.new result }
     ensures plain { names.new.plain ≡ names.old.plain }
+    ensures lent { StillLent names.old names.new }
 {
     let i = read_id(s, at)?;
     let f = behind_comma(names, s, i.end, scratch, scratch::FACTOR)?;
@@ -44,6 +46,7 @@ pub(crate) fn read_multiplied(
     requires { (at ≤ length s.now) × (least_scratch ≤ length scratch.old) }
     ensures read { SumIs stored.now.ring (store_in stored.now) multiplied names.old names.new s.now at scratch.old scratch.new result }
     ensures plain { names.new.plain ≡ names.old.plain }
+    ensures lent { StillLent names.old names.new }
 {
     let q = read_multiplied_pair(names, s, at, scratch)?;
     Ok(SumRead::none(at).with(stored, scratch, q))

@@ -6,6 +6,7 @@ ghost use Rattle.paper.specs.Statement.{renamed_field};
 ghost use Rattle.paper.specs.Published.{Name, one, poly, factor, summand};
 ghost use Rattle.written.specs.Worded.{Holds};
 ghost use Rattle.reader.specs.Verdicts.{lesser_of};
+ghost use Rattle.names.specs.Numbered.{StillLent};
 ghost use Rattle.scratch.specs.Scratch.{factor_at, goal_at};
 ghost use Rattle.published.specs.Pairs.{IdIs, PlacedIs, FactorIs, in_parentheses, SummandIs, comma_poly};
 
@@ -90,6 +91,7 @@ pub(crate) fn read_polynomial(
     requires { (at ≤ length s.now) × (base + field_terms * term_words ≤ length scratch.old) }
     ensures read { PlacedIs base poly names.old names.new s.now at scratch.old scratch.new result }
     ensures plain { names.new.plain ≡ names.old.plain }
+    ensures lent { StillLent names.old names.new }
 {
     let last = base + scratch::REGION;
     read_poly(names, s, at, &mut scratch[base..last])
@@ -106,6 +108,7 @@ pub(crate) fn behind_comma(
     requires { (at ≤ length s.now) × (base + field_terms * term_words ≤ length scratch.old) }
     ensures read { PlacedIs base comma_poly names.old names.new s.now at scratch.old scratch.new result }
     ensures plain { names.new.plain ≡ names.old.plain }
+    ensures lent { StillLent names.old names.new }
 {
     let from = symbol_at(s, at, b',')?;
     read_polynomial(names, s, from, scratch, base)
@@ -121,6 +124,7 @@ fn in_parentheses(
     requires { (at ≤ length s.now) × (least_scratch ≤ length scratch.old) }
     ensures read { FactorIs in_parentheses names.old names.new s.now at scratch.old scratch.new result }
     ensures plain { names.new.plain ≡ names.old.plain }
+    ensures lent { StillLent names.old names.new }
 {
     let from = symbol_at(s, skip_spaces(s, at), b'(')?;
     let p = read_polynomial(names, s, from, scratch, scratch::FACTOR)?;
@@ -138,6 +142,7 @@ fn read_factor(
     requires { (at ≤ length s.now) × (least_scratch ≤ length scratch.old) }
     ensures read { FactorIs factor names.old names.new s.now at scratch.old scratch.new result }
     ensures plain { names.new.plain ≡ names.old.plain }
+    ensures lent { StillLent names.old names.new }
 {
     if stands_at(s, at, b'*') {
         return in_parentheses(names, s, at + 1, scratch);
@@ -161,6 +166,7 @@ pub(crate) fn read_summand(
     requires { (at ≤ length s.now) × (least_scratch ≤ length scratch.old) }
     ensures read { SummandIs summand names.old names.new s.now at scratch.old scratch.new result }
     ensures plain { names.new.plain ≡ names.old.plain }
+    ensures lent { StillLent names.old names.new }
 {
     let i = read_id(s, at)?;
     let f = read_factor(names, s, i.end, scratch)?;

@@ -1,6 +1,7 @@
 // The pairs behind a sign: a sum of summands, or PAC's sum or product.
 ghost use Rattle.std.specs.Prelude.{◌≡◌, ◌≤◌, length};
 ghost use Rattle.limits.specs.Limits.{least_scratch};
+ghost use Rattle.names.specs.Numbered.{StillLent};
 ghost use Rattle.table.specs.Stores.{store_in};
 ghost use Rattle.published.specs.Pairs.{SumIs, pairs_behind};
 
@@ -22,6 +23,7 @@ pub(crate) fn pairs_behind(
     requires { (at ≤ length s.now) × (least_scratch ≤ length scratch.old) }
     ensures read { SumIs stored.now.ring (store_in stored.now) (pairs_behind b) names.old names.new s.now at scratch.old scratch.new result }
     ensures plain { names.new.plain ≡ names.old.plain }
+    ensures lent { StillLent names.old names.new }
 {
     match b {
         b'%' => read_sum(stored, names, s, at, scratch),

@@ -3,6 +3,7 @@ ghost use Rattle.std.specs.Prelude.{◌≡◌, false, ℕ, ◌≤◌, length, Er
 ghost use Rattle.limits.specs.Limits.{least_scratch};
 ghost use Rattle.paper.specs.Rules.{Store};
 ghost use Rattle.paper.specs.Published.{constraint, target, read_by};
+ghost use Rattle.names.specs.Numbered.{StillLent};
 ghost use Rattle.table.specs.Stores.{store_in};
 ghost use Rattle.published.specs.Statements.{reader_of, ClosedIs, WholeIs, NamedItemIs};
 
@@ -80,6 +81,7 @@ fn read_constraint(
     requires { least_scratch ≤ length scratch.old }
     ensures read { (k : ℕ) (store : Store) → WholeIs k store constraint names.old names.new s.now 0 scratch.old scratch.new result }
     ensures plain { names.new.plain ≡ names.old.plain }
+    ensures lent { StillLent names.old names.new }
 {
     let i = read_id(s, 0)?;
     let p = read_polynomial(names, s, i.end, scratch, scratch::STATED)?;
@@ -100,6 +102,7 @@ fn read_target(
     requires { least_scratch ≤ length scratch.old }
     ensures read { (k : ℕ) (store : Store) → WholeIs k store target names.old names.new s.now 0 scratch.old scratch.new result }
     ensures plain { names.new.plain ≡ names.old.plain }
+    ensures lent { StillLent names.old names.new }
 {
     let p = read_polynomial(names, s, 0, scratch, scratch::STATED)?;
     let read = StatementRead {
@@ -121,6 +124,7 @@ fn read_whole(
     requires { least_scratch ≤ length scratch.old }
     ensures read { WholeIs stored.now.ring (store_in stored.now) (reader_of kind) names.old names.new s.now 0 scratch.old scratch.new result }
     ensures plain { names.new.plain ≡ names.old.plain }
+    ensures lent { StillLent names.old names.new }
 {
     match kind {
         CONSTRAINT => read_constraint(names, s, scratch),
@@ -143,6 +147,7 @@ pub fn read_statement(
     requires { least_scratch ≤ length scratch.old }
     ensures read { NamedItemIs stored.now.ring (store_in stored.now) names.old names.new (read_by (reader_of kind) (record { content = s.now; ended = ended })) scratch.old scratch.new result }
     ensures plain { names.new.plain ≡ names.old.plain }
+    ensures lent { StillLent names.old names.new }
 {
     if limits::LINE_BYTES < s.len() {
         return no_statement(Refusal::LongLine);

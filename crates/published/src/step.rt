@@ -3,6 +3,7 @@ ghost use Rattle.std.specs.Prelude.{◌≡◌, List, ℕ, ◌≤◌, length};
 ghost use Rattle.limits.specs.Limits.{least_scratch};
 ghost use Rattle.paper.specs.Rules.{Store};
 ghost use Rattle.paper.specs.Published.{linear, delete, extend, proof_step};
+ghost use Rattle.names.specs.Numbered.{StillLent};
 ghost use Rattle.names.specs.declared.numbering.Numbering.{Numbering};
 ghost use Rattle.table.specs.Stores.{store_in};
 ghost use Rattle.published.specs.Pairs.{IdAt, pairs_behind};
@@ -34,6 +35,7 @@ fn read_linear(
     requires { IdAt s.now 0 i × (at ≤ length s.now) × (least_scratch ≤ length scratch.old) }
     ensures read { (h : IdAt s.now 0 i) → WholeIs stored.now.ring (store_in stored.now) (linear (pairs_behind b) h.value) names.old names.new s.now at scratch.old scratch.new result }
     ensures plain { names.new.plain ≡ names.old.plain }
+    ensures lent { StillLent names.old names.new }
 {
     let q = pairs_behind(b, stored, names, s, at, scratch)?;
     let p = behind_comma(names, s, q.end, scratch, STATED)?;
@@ -57,6 +59,7 @@ fn read_extend(
     requires { IdAt s.now 0 i × (at ≤ length s.now) × (least_scratch ≤ length scratch.old) }
     ensures read { (h : IdAt s.now 0 i) (k : ℕ) (store : Store) → WholeIs k store (extend h.value) names.old names.new s.now at scratch.old scratch.new result }
     ensures plain { names.new.plain ≡ names.old.plain }
+    ensures lent { StillLent names.old names.new }
 {
     let v = read_name(names, s, at)?;
     let p = behind_comma(names, s, v.end, scratch, STATED)?;
@@ -95,6 +98,7 @@ pub(crate) fn read_step(
     requires { least_scratch ≤ length scratch.old }
     ensures read { WholeIs stored.now.ring (store_in stored.now) proof_step names.old names.new s.now 0 scratch.old scratch.new result }
     ensures plain { names.new.plain ≡ names.old.plain }
+    ensures lent { StillLent names.old names.new }
 {
     let i = read_id(s, 0)?;
     let end = i.end;

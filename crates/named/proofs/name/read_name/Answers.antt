@@ -19,7 +19,7 @@ here c = sym c.letter_at.ensures ∙ c.if-not-letter_at.false
 pub returns-clause-read : goal.returns-clause-read
 returns-clause-read c =
     let a = c.args in
-    name_read a.s.now a.at a.names.now c.number.new.self c.name_end-e.result c.skip_spaces.result c.number.result c.number.ensures
+    name_read a.s.now a.at a.names.now c.number.new.self c.name_end-e.result c.skip_spaces.result c.number.result c.number.ensures.numbered
     (here (goal.at.returns-clause-read c).Else-not-letter_at) c.name_end-e.ensures c.skip_spaces.ensures
 
 pub name_end-e-requires : goal.name_end-e-requires

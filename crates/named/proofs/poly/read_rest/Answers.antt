@@ -1,3 +1,4 @@
+use mathlib.Core.Path.{refl, ◌∙◌}
 use Prim.Native.Nat.{◌<◌}
 use native.Mathlib.Omega.{arith}
 use lib.ListN.{length}
@@ -13,7 +14,7 @@ use Rattle.named.proofs.poly.read_rest.Goals.{In-loop-names}
 pub loop-names-init : goal.loop-names-init
 loop-names-init c =
     let a = c.args in
-    (monomials_none a.names.now a.s.now a.at a.out.now c.requires.0, within_refl, omega arith)
+    (monomials_none a.names.now a.s.now a.at a.out.now c.requires.0, within_refl, omega arith, (refl, refl))
 
 -- a sign stands at i
 inside : (c : In-loop-names) → c.loop-names.i < length c.args.s.now
@@ -38,13 +39,15 @@ returns-in_err-m-clause-read c =
 pub loop-names-preserved : goal.loop-names-preserved
 loop-names-preserved c =
     let l = c.loop-names in
-    let a = c.args in (
+    let a = c.args in
+    let t = c.in_ok-m.ensures.lent in (
       monomials_one a.names.now a.s.now a.at a.out.now l.names l.out l.terms l.why l.bad l.i l.invariant.0
           c.stands_at.result c.stands_at-in-loop-names.result c.stands_at.ensures c.stands_at-in-loop-names.ensures c.loop-names-test.true c.skip_spaces.result c.skip_spaces.ensures
           c.stands_at-in-loop-names-2.result c.stands_at-in-loop-names-2.ensures c.read_monomial.new.names c.put_term.new.out c.in_ok-m.m c.in_ok-m.ensures.read c.put_term.ensures
           c.first_verdict-why.result c.first_verdict-why.ensures,
       within_trans l.invariant.1 (put_within (omega (arith, l.invariant.0.holds.count)) c.put_term.ensures),
       omega (arith, l.invariant.2, c.skip_spaces.ensures.onward, c.in_ok-m.ensures.read.taken.onward),
+      (t.0 ∙ l.invariant.3.0, t.1 ∙ l.invariant.3.1),
     )
 
 pub returns-clause-read : goal.returns-clause-read

@@ -21,7 +21,7 @@ returns-in_err-r-clause-read c =
     rw (same_err c.from_residual.result c.from_residual.ensures.1) (record { said = summands_unread c.in_err-r.ensures.read.said; kept = c.in_err-r.ensures.read.kept })
 
 pub loop-next-init : goal.loop-next-init
-loop-next-init c = record { summed = summands_first c.none.ensures c.in_ok-r.ensures.read.said; kept = c.in_ok-r.ensures.read.kept; plain = c.in_ok-r.ensures.plain }
+loop-next-init c = record { summed = summands_first c.none.ensures c.in_ok-r.ensures.read.said; kept = c.in_ok-r.ensures.read.kept; plain = c.in_ok-r.ensures.plain; lent = c.in_ok-r.ensures.lent }
 
 pub skip_spaces-next-requires : goal.skip_spaces-next-requires
 skip_spaces-next-requires c = omega (arith, (stands _ _ _ (here (goal.at.skip_spaces-next-requires c).In-loop-next)).0)
@@ -43,6 +43,7 @@ loop-next-preserved c = record {
   summed = summands_more c.loop-next.invariant.summed (here (goal.at.loop-next-preserved c).In-loop-next) c.skip_spaces-next.ensures c.in_ok-r-2.ensures.read.said;
   kept = kept_trans c.loop-next.invariant.kept c.in_ok-r-2.ensures.read.kept;
   plain = c.in_ok-r-2.ensures.plain ∙ c.loop-next.invariant.plain;
+  lent = (c.in_ok-r-2.ensures.lent.0 ∙ c.loop-next.invariant.lent.0, c.in_ok-r-2.ensures.lent.1 ∙ c.loop-next.invariant.lent.1);
 }
 
 pub returns-clause-read : goal.returns-clause-read
