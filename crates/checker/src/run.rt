@@ -25,7 +25,10 @@ pub(crate) fn run(text: &[u8], pool: &mut [u64], scratch: &mut [u64], capacity: 
         let line = &text[at..e];
         let ended = e < text.len();
         let stored = Stored {
-            table: &state.table,
+            indices: &state.table.indices,
+            starts: &state.table.starts,
+            counts: &state.table.counts,
+            polynomials: state.table.stored,
             pool,
             ring: state.ring,
         };

@@ -13,7 +13,7 @@ ghost use Rattle.written.specs.Worded.{Holds};
 ghost use Rattle.table.specs.Table.{PackedColumns, store_of_columns};
 ghost use Rattle.scratch.specs.Scratch.{stated_at, goal_at, RunAt, ReducedAt};
 
-use table::Table;
+use table::{Counts, Starts};
 use words::Set;
 use words::ring::Ring;
 
@@ -56,14 +56,21 @@ pub fn copy_to_goal(scratch: &mut [u64], n: usize)
 }
 
 // Whether the n terms of a goal are one of the stored polynomials.
-pub fn is_stored(table: &Table, pool: &[u64], goal: &[u64], n: usize) -> bool
-    requires { ((used : ℕ) × PackedColumns table.now.starts table.now.counts table.now.stored used × (used * term_words ≤ length pool.now))
+pub fn is_stored<'a>(
+    starts: &'a Starts,
+    counts: &'a Counts,
+    stored: usize,
+    pool: &[u64],
+    goal: &[u64],
+    n: usize,
+) -> bool
+    requires { ((used : ℕ) × PackedColumns starts.now counts.now stored used × (used * term_words ≤ length pool.now))
         × (n * term_words ≤ length goal.now) }
-    ensures { (indices : List ℕ) → result ≡ holds_goal (decode n goal.now) (store_of_columns indices table.now.starts table.now.counts pool.now table.now.stored) }
+    ensures { (indices : List ℕ) → result ≡ holds_goal (decode n goal.now) (store_of_columns indices starts.now counts.now pool.now stored) }
 {
-    for j in 0..table.stored {
-        let at = table.starts[j] as usize * limits::TERM_WORDS;
-        let m = table.counts[j] as usize;
+    for j in 0..stored {
+        let at = starts[j] as usize * limits::TERM_WORDS;
+        let m = counts[j] as usize;
         if terms::same_run(&pool[at..], m, goal, n) {
             return true;
         }

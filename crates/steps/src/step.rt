@@ -113,7 +113,14 @@ impl State {
         let f = scratch::reduce_field(scratch, scratch::STATED, n, ring);
         let m = f.terms;
         scratch::copy_to_goal(scratch, m);
-        self.reached = scratch::is_stored(&self.table, pool, &scratch[scratch::GOAL..], m);
+        self.reached = scratch::is_stored(
+            &self.table.starts,
+            &self.table.counts,
+            self.table.stored,
+            pool,
+            &scratch[scratch::GOAL..],
+            m,
+        );
         let shown = f.shown;
         let seen = words::union(shown, self.seen);
         self.seen = seen;

@@ -48,16 +48,16 @@ fn add_products(
     factor: Reduced,
     sum: Sum,
 ) -> Result<Sum, Refusal>
-    requires { (j < stored.now.table.now.stored) × (factor.terms ≤ field_terms) × (sum.terms ≤ line_products)
+    requires { (j < stored.now.polynomials) × (factor.terms ≤ field_terms) × (sum.terms ≤ line_products)
         × (least_scratch ≤ length scratch.old) }
-    ensures { Extended (decode factor.terms (drop factor_at scratch.old)) (poly_at stored.now.table.now.starts stored.now.table.now.counts stored.now.pool.now j) (number_of factor.shown) sum scratch.old scratch.new result }
+    ensures { Extended (decode factor.terms (drop factor_at scratch.old)) (poly_at stored.now.starts.now stored.now.counts.now stored.now.pool.now j) (number_of factor.shown) sum scratch.old scratch.new result }
 {
-    let m = stored.table.counts[j] as usize;
+    let m = stored.counts[j] as usize;
     let terms = sum.terms + factor.terms * m;
     if limits::LINE_PRODUCTS < terms {
         return Err(Refusal::Products);
     }
-    let start = stored.table.starts[j] as usize * limits::TERM_WORDS;
+    let start = stored.starts[j] as usize * limits::TERM_WORDS;
     let (front, factors) = scratch.split_at_mut(scratch::FACTOR);
     scratch::append_products(
         front,
@@ -89,7 +89,7 @@ pub fn add_factor(
         → Summed stored.now.ring (store_in stored.now) (qs ++ (record { index = index; factor = w } ∷ [])) scratch.new result }
     ensures kept { Kept scratch.old scratch.new }
 {
-    let found = table::find(&stored.table.indices, stored.table.stored, index);
+    let found = table::find(stored.indices, stored.polynomials, index);
     let place = found.ok_or(Refusal::Missing)?;
     let sum = sum?;
     let ring = Ring { k: stored.ring };

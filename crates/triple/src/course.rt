@@ -60,7 +60,10 @@ pub(crate) fn judge_text(
     while at < text.len() {
         let e = find_byte(text, at, b';');
         let stored = Stored {
-            table: &state.table,
+            indices: &state.table.indices,
+            starts: &state.table.starts,
+            counts: &state.table.counts,
+            polynomials: state.table.stored,
             pool,
             ring: state.ring,
         };

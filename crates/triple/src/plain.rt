@@ -39,7 +39,10 @@ fn plain_text(
 {
     let state = State::new();
     let stored = Stored {
-        table: &state.table,
+        indices: &state.table.indices,
+        starts: &state.table.starts,
+        counts: &state.table.counts,
+        polynomials: state.table.stored,
         pool,
         ring: state.ring,
     };

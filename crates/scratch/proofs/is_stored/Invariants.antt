@@ -4,4 +4,4 @@ use Rattle.scratch.proofs.Goals.{NoneIs}
 use Rattle.scratch.proofs.is_stored.Given as goal
 
 abbrev pub invariant-loop-j : goal.invariant-loop-j
-invariant-loop-j l = NoneIs l.table.starts l.table.counts l.pool (decode l.n l.goal) l.j
+invariant-loop-j l = NoneIs l.starts l.counts l.pool (decode l.n l.goal) l.j

@@ -9,15 +9,13 @@ use Rattle.sums.proofs.add_factor.Goals as goal
 pub returns-in_err-place-clause-summed : goal.returns-in_err-place-clause-summed
 returns-in_err-place-clause-summed c =
     let d = c.args.stored.now in
-    let t = d.table.now in
-    λ w h qs s. factor_missing t.indices t.starts t.counts d.pool.now t.stored c.args.index w s c.find-found.result c.find-found.ensures
+    λ w h qs s. factor_missing d.indices.now d.starts.now d.counts.now d.pool.now d.polynomials c.args.index w s c.find-found.result c.find-found.ensures
     (sym c.ok_or.ensures.value ∙ c.in_err-place.was) c.from_residual.result c.from_residual.ensures.1
 
 pub returns-in_err-sum-clause-summed : goal.returns-in_err-sum-clause-summed
 returns-in_err-sum-clause-summed c =
     let d = c.args.stored.now in
-    let t = d.table.now in
-    λ w h qs s. factor_stopped t.indices t.starts t.counts d.pool.now t.stored c.args.index w s
+    λ w h qs s. factor_stopped d.indices.now d.starts.now d.counts.now d.pool.now d.polynomials c.args.index w s
     (placed c.find-found.result c.find-found.ensures (sym c.ok_or.ensures.value ∙ c.in_ok-place.was)) c.in_err-sum.was
     c.from_residual-in_err-sum.result c.from_residual-in_err-sum.ensures.1
 
@@ -30,8 +28,7 @@ add_products-requires c =
 pub returns-clause-summed : goal.returns-clause-summed
 returns-clause-summed c =
     let d = c.args.stored.now in
-    let t = d.table.now in
-    λ w h qs s. factor_added t.indices t.starts t.counts d.pool.now t.stored c.args.index w s
+    λ w h qs s. factor_added d.indices.now d.starts.now d.counts.now d.pool.now d.polynomials c.args.index w s
     (placed c.find-found.result c.find-found.ensures (sym c.ok_or.ensures.value ∙ c.in_ok-place.was)) _ c.in_ok-sum.was (c.reduce_field-factor.ensures w h)
     c.add_products.ensures
 
