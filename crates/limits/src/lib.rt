@@ -50,12 +50,14 @@ pub const HOST_SCRATCH: usize = LEAST_SCRATCH;
 
 pub const HOST_TEXT_BYTES: usize = 65536;
 
-// ---- verdicts that stand as numbers: those on what is written, and those of a text as a whole. Every refusal is a `Refusal`
+// ---- verdicts: 0, and the numbers of the refusals
 pub const ACCEPTED: u64 = 0;
 
 pub const SHORT: u64 = Refusal::Short as u64;
 
 pub const LONGTEXT: u64 = Refusal::LongText as u64;
+
+pub const LONGLINE: u64 = Refusal::LongLine as u64;
 
 pub const FORM: u64 = Refusal::Form as u64;
 
@@ -63,6 +65,25 @@ pub const NUMBER: u64 = Refusal::Number as u64;
 
 pub const TERMS: u64 = Refusal::Terms as u64;
 
+pub const ORDER: u64 = Refusal::Order as u64;
+
+pub const TAKEN: u64 = Refusal::Taken as u64;
+
+pub const MISSING: u64 = Refusal::Missing as u64;
+
+pub const SEEN: u64 = Refusal::Seen as u64;
+
+pub const PRODUCTS: u64 = Refusal::Products as u64;
+
+pub const MISMATCH: u64 = Refusal::Mismatch as u64;
+
+pub const NOTBIT: u64 = Refusal::NotBit as u64;
+
+pub const FULL: u64 = Refusal::Full as u64;
+
 pub const NOGOAL: u64 = Refusal::NoGoal as u64;
 
 pub const NOTREACHED: u64 = Refusal::NotReached as u64;
+
+// Of published texts, directly after TERMS.
+pub const NAMES: u64 = Refusal::Names as u64;

@@ -1,6 +1,7 @@
 // Refusals, each with the number that document 01 gives it.
 ghost use Rattle.std.specs.Prelude.{◌≡◌, ◌≤◌};
 ghost use Rattle.limits.specs.Refusals.{number_of, outcome};
+ghost use Rattle.limits.specs.Verdicts.{NAMES};
 
 // Why something is refused.
 #[derive(Clone, Copy, PartialEq, Eq)]
@@ -36,27 +37,27 @@ impl Refusal {
 
 // The refusal of a number; 0 refuses nothing.
 pub fn verdict(number: u64) -> Result<(), Refusal>
-    requires { number ≤ 17 }
+    requires { number ≤ NAMES }
     ensures { outcome result ≡ number }
 {
     match number {
-        1 => Err(Refusal::Short),
-        2 => Err(Refusal::LongText),
-        3 => Err(Refusal::LongLine),
-        4 => Err(Refusal::Form),
-        5 => Err(Refusal::Number),
-        6 => Err(Refusal::Terms),
-        7 => Err(Refusal::Order),
-        8 => Err(Refusal::Taken),
-        9 => Err(Refusal::Missing),
-        10 => Err(Refusal::Seen),
-        11 => Err(Refusal::Products),
-        12 => Err(Refusal::Mismatch),
-        13 => Err(Refusal::NotBit),
-        14 => Err(Refusal::Full),
-        15 => Err(Refusal::NoGoal),
-        16 => Err(Refusal::NotReached),
-        17 => Err(Refusal::Names),
+        crate::SHORT => Err(Refusal::Short),
+        crate::LONGTEXT => Err(Refusal::LongText),
+        crate::LONGLINE => Err(Refusal::LongLine),
+        crate::FORM => Err(Refusal::Form),
+        crate::NUMBER => Err(Refusal::Number),
+        crate::TERMS => Err(Refusal::Terms),
+        crate::ORDER => Err(Refusal::Order),
+        crate::TAKEN => Err(Refusal::Taken),
+        crate::MISSING => Err(Refusal::Missing),
+        crate::SEEN => Err(Refusal::Seen),
+        crate::PRODUCTS => Err(Refusal::Products),
+        crate::MISMATCH => Err(Refusal::Mismatch),
+        crate::NOTBIT => Err(Refusal::NotBit),
+        crate::FULL => Err(Refusal::Full),
+        crate::NOGOAL => Err(Refusal::NoGoal),
+        crate::NOTREACHED => Err(Refusal::NotReached),
+        crate::NAMES => Err(Refusal::Names),
         _ => Ok(()),
     }
 }

@@ -1,6 +1,7 @@
 // A statement read, once: its kind with its numbers, its polynomial as it was written, in the stated region of the scratch, and the sum of its pairs.
 ghost use Rattle.std.specs.Prelude.{◌≡◌, false, ℕ, ◌≤◌, length, Err};
 ghost use Rattle.limits.specs.Limits.{least_scratch};
+ghost use Rattle.limits.specs.Verdicts.{NAMES};
 ghost use Rattle.paper.specs.Rules.{Store};
 ghost use Rattle.paper.specs.Published.{constraint, target, read_by};
 ghost use Rattle.names.specs.Numbered.{StillLent};
@@ -51,7 +52,7 @@ pub(crate) fn closed(
     why: u64,
     read: StatementRead,
 ) -> Result<StatementRead, Stop>
-    requires { why ≤ 17 }
+    requires { why ≤ NAMES }
     ensures { ClosedIs (length s.now) end why read result }
 {
     if end < s.len() {

@@ -5,6 +5,7 @@
 ghost use Rattle.std.specs.Prelude.{List, ℕ, ◌*◌, ◌≤◌, length};
 ghost use Rattle.limits.specs.Limits.{greatest_magnitude, field_terms, term_words, least_spelling_scratch};
 ghost use Rattle.limits.specs.Refusals.{outcome};
+ghost use Rattle.limits.specs.Verdicts.{NAMES};
 ghost use Rattle.algebra.specs.Polynomial.{reduce};
 ghost use Rattle.terms.specs.Terms.{decode};
 ghost use Rattle.paper.specs.Spelling.{spell, spell_read, whole_field};
@@ -17,7 +18,7 @@ use words::ring::Ring;
 
 // Whether a field that was read as f is refused at k, with FORM, NUMBER or TERMS, the first that applies.
 fn judge(field: &[u8], k: u64, f: FieldRead) -> Result<(), Refusal>
-    requires { f.why ≤ 17 }
+    requires { f.why ≤ NAMES }
     ensures { (s r : List ℕ) → FieldAt greatest_magnitude field.now 0 s r f → FieldJudged field.now k r f.terms (outcome result) }
 {
     if f.end != field.len() {
