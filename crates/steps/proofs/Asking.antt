@@ -18,7 +18,7 @@ use Rattle.scratch.specs.Scratch.{stated_at}
 use Rattle.sums.specs.declared.Sum.{Sum}
 use Rattle.sums.specs.Sums.{Summed}
 use Rattle.steps.specs.declared.said.Said.{Said}
-use Rattle.steps.specs.declared.said.Said.TheVariants.{Ring, Lin, Ext}
+use Rattle.steps.specs.declared.said.Said.TheVariants.{Ring, Input, Goal, Lin, Ext}
 use Rattle.steps.specs.declared.state.State.{State}
 use Rattle.steps.specs.Stepped.{Room}
 use Rattle.steps.specs.Items.{Means, Sayable, Tells, long, stops, turns, passes, ItemIs}
@@ -55,9 +55,16 @@ ranges {st} {x} e h =
 abbrev pub Stands : ℕ → List ℕ → Type 0
 Stands n words = (p : Written) × Holds p n stated_at words
 
+-- what the step of what was said asks for; that of a del asks for the room alone
 module _ {k : ℕ} {store : Store} {words : List ℕ} {r : Result Said Refusal} (a : Sayable k store words r) where
   pub ask_ring : {j : ℕ} → r ≡ Ok (Ring j) → is_ring (modulo j) ≡ true
   ask_ring e = let b = a.means _ e in (ranges b.2 b.1).0
+
+  pub ask_input : {i n : ℕ} → r ≡ Ok (Input i n) → Stands n words
+  ask_input e = let h = (a.means _ e).2 in (h.0, h.2)
+
+  pub ask_goal : {n : ℕ} → r ≡ Ok (Goal n) → Stands n words
+  ask_goal e = let h = (a.means _ e).2 in (h.0, h.2)
 
   pub ask_ext : {i v n : ℕ} → r ≡ Ok (Ext i v n) → (is_variable v ≡ true) × Stands n words
   ask_ext e =
@@ -65,11 +72,7 @@ module _ {k : ℕ} {store : Store} {words : List ℕ} {r : Result Said Refusal} 
       let h = b.2 in
       ((ranges h.1 b.1).1, (h.0, h.2))
 
--- what the step of a lin asks for, in the room of before it was read
-pub ask_lin : {capacity k : ℕ} {store : Store} {item : Item} {s : State} {pool words words' : List ℕ} {r : Result Said Refusal} → ItemIs k store item words words' r
-    → {i n : ℕ} {x : Result Sum Refusal} → r ≡ Ok (Lin i n x) → Room capacity s pool words
-    → Room capacity s pool words' × Stands n words' × ((qs : List Pair) × Summed k store qs words' x)
-ask_lin y e room =
-    let a = ask_judge y room in
-    let h = ((a.1).means _ e).2 in
-    (a.0, (h.2.0, h.2.2), (h.0, h.1))
+-- what the step of a lin asks for, in the room that judging has
+pub ask_lin : {capacity k : ℕ} {store : Store} {s : State} {pool words : List ℕ} {r : Result Said Refusal} → Room capacity s pool words × Sayable k store words r
+    → {i n : ℕ} {x : Result Sum Refusal} → r ≡ Ok (Lin i n x) → Room capacity s pool words × Stands n words × ((qs : List Pair) × Summed k store qs words x)
+ask_lin a e = let h = ((a.1).means _ e).2 in (a.0, (h.2.0, h.2.2), (h.0, h.1))

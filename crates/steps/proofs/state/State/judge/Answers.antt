@@ -2,7 +2,7 @@
 use mathlib.Core.Path.{refl, ap, ◌∙◌}
 use Rattle.std.specs.Prelude.{Ok}
 use Rattle.steps.proofs.Stepping.{passed_on}
-use Rattle.steps.proofs.Asking.{ask_ring, ask_ext}
+use Rattle.steps.proofs.Asking.{ask_ring, ask_input, ask_goal, ask_lin, ask_ext}
 use Rattle.steps.proofs.Judging.{judged_unread, judged_ring, judged_input, judged_goal, judged_lin, judged_del, judged_ext}
 use Rattle.steps.proofs.state.State.judge.Goals as goal
 
@@ -12,6 +12,15 @@ returns-in_err-k-clause-judged c =
 
 pub step_ring-requires : goal.step_ring-requires
 step_ring-requires c = (ask_ring c.requires.1 (c.in_ok-k.was ∙ ap Ok c.in-Ring.is), c.requires.0.early)
+
+pub step_input-requires : goal.step_input-requires
+step_input-requires c = (c.requires.0, ask_input c.requires.1 (c.in_ok-k.was ∙ ap Ok c.in-Input.is))
+
+pub step_goal-requires : goal.step_goal-requires
+step_goal-requires c = ((_, c.requires.0), ask_goal c.requires.1 (c.in_ok-k.was ∙ ap Ok c.in-Goal.is))
+
+pub step_lin-requires : goal.step_lin-requires
+step_lin-requires c = ask_lin c.requires (c.in_ok-k.was ∙ ap Ok c.in-Lin.is)
 
 pub step_ext-requires : goal.step_ext-requires
 step_ext-requires c = let a = ask_ext c.requires.1 (c.in_ok-k.was ∙ ap Ok c.in-Ext.is) in (c.requires.0, a.0, a.1)
