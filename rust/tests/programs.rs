@@ -9,9 +9,13 @@ use std::fs::{read, File, OpenOptions};
 use std::io::{ErrorKind, Read, Write};
 use std::net::{TcpListener, TcpStream};
 use std::os::fd::OwnedFd;
+use std::os::unix::net::UnixStream;
 use std::process::{Command, Output, Stdio};
 
 const PROGRAMS: [&str; 2] = ["lpac_check", "lpac_spell"];
+
+/// The bytes that a pipe holds on Linux.
+const PIPE_BYTES: usize = 65_536;
 
 /// An input of `lpac_spell` that is answered.
 const FIELD: &[u8] = b"8\t1.1\n";
@@ -141,4 +145,24 @@ fn an_answer_that_nobody_reads_is_a_failure() {
         drop(reader);
         cannot_write(name, writer);
     }
+}
+
+/// What a program leaves in a pipe that has so many bytes of room and refuses what does not fit. Nobody reads before the program has ended.
+fn leaves_in_a_pipe(mut command: Command, room: usize) -> Vec<u8> {
+    let (mut reader, mut writer) = std::io::pipe().unwrap();
+    writer.write_all(&vec![b'.'; PIPE_BYTES - room]).unwrap();
+    let writer = UnixStream::from(OwnedFd::from(writer));
+    writer.set_nonblocking(true).unwrap();
+    command.stdin(Stdio::null()).stdout(OwnedFd::from(writer)).stderr(Stdio::null());
+    assert_eq!(command.status().unwrap().code(), Some(2));
+    drop(command);
+    let mut left = Vec::new();
+    reader.read_to_end(&mut left).unwrap();
+    left.split_off(PIPE_BYTES - room)
+}
+
+/// The answer to the empty text begins with `15` and a tab: two bytes do not fit, and the one behind them does.
+#[test]
+fn each_write_of_an_answer_is_tried() {
+    assert_eq!(leaves_in_a_pipe(program("lpac_check"), 1), b"\t");
 }

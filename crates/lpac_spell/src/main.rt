@@ -44,9 +44,12 @@ fn spell_line(line: &[u8], scratch: &mut [u64], out: &mut [u8]) -> Result<usize,
     speller::spell(&line[asked.at..], asked.k, scratch, out)
 }
 
-// Writes an answer, and tells whether it was written.
+// Writes an answer, and tells whether it was written. Each write is tried, also behind one that failed.
 fn say<W: Write>(to: &mut W, verdict: u64, spelling: &[u8]) -> bool {
-    write!(to, "{verdict}\t").is_ok() & to.write_all(spelling).is_ok() & to.write_all(b"\n").is_ok()
+    write!(to, "{verdict}").is_ok()
+        & to.write_all(b"\t").is_ok()
+        & to.write_all(spelling).is_ok()
+        & to.write_all(b"\n").is_ok()
 }
 
 // Answers a line.

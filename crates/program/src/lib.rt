@@ -2,8 +2,9 @@
 
 #![tactic(auto)]
 
-ghost use Rattle.std.specs.Prelude.{◌≡◌, true, false, ◌<◌, ◌≤◌, length, take, IfOk};
+ghost use Rattle.std.specs.Prelude.{◌≡◌, true, false, ◌<◌, ◌≤◌, ◌++◌, length, take, IfOk};
 ghost use Rattle.std.specs.Io.KnownBytes.{Consumes, IsAtEnd, Appends};
+ghost use Rattle.std.specs.Fmt.{decimal};
 ghost use Rattle.std.specs.Process.{exit_status};
 ghost use Rattle.program.specs.Program.{IsPrefixLen, bytes_of, six_numbers, status_of, Status};
 
@@ -40,12 +41,26 @@ pub fn read_input<R: Read>(input: &mut R, room: &mut [u8], most: usize) -> Resul
     Ok(done)
 }
 
+// Writes a number and the byte behind it, and tells whether both were written. Each write is tried, also behind one that failed.
+fn say_number<W: Write>(to: &mut W, n: u64, behind: &[u8]) -> bool
+    ensures { result ≡ true → Appends (W.contents to.old) (W.contents to.new) (decimal n ++ behind.now) }
+{
+    let number = write!(to, "{n}").is_ok();
+    let rest = to.write_all(behind).is_ok();
+    number & rest
+}
+
 // Writes six numbers on a line, parted by tabs, and tells whether all were written.
 fn say_six<W: Write>(to: &mut W, numbers: [u64; 6]) -> bool
     ensures { result ≡ true → Appends (W.contents to.old) (W.contents to.new) (six_numbers numbers) }
 {
     let [a, b, c, d, e, f] = numbers;
-    writeln!(to, "{a}\t{b}\t{c}\t{d}\t{e}\t{f}").is_ok()
+    say_number(to, a, b"\t")
+        & say_number(to, b, b"\t")
+        & say_number(to, c, b"\t")
+        & say_number(to, d, b"\t")
+        & say_number(to, e, b"\t")
+        & say_number(to, f, b"\n")
 }
 
 // Says on standard error what went wrong, and gives the status for it.
