@@ -132,3 +132,18 @@ fn the_header_has_the_verdicts_names_and_numbers() {
         assert!(header.contains(&format!("LPAC_{name} = {number},")) || header.contains(&format!("LPAC_{name} = {number}\n")));
     }
 }
+
+/// What an archive needs from outside.
+fn needed_by(library: &str) -> Vec<String> {
+    let said = Command::new("nm").arg("-u").arg(at_root(&format!("target/staticlib/lib{library}.a"))).output().expect("nm is there");
+    assert!(said.status.success());
+    String::from_utf8(said.stdout).unwrap().lines().filter_map(|l| l.trim().strip_prefix("U ")).map(str::to_string).collect()
+}
+
+#[test]
+fn the_libraries_need_nothing_from_outside_but_to_copy_and_to_fill() {
+    for library in ["lpac_host", "lpac_rooms"] {
+        let needed = needed_by(library);
+        assert!(!needed.is_empty() && needed.iter().all(|name| ["memcpy", "memset"].contains(&&name[..])), "{library}: {needed:?}");
+    }
+}

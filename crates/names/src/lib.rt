@@ -50,7 +50,9 @@ fn put_name(room: &mut [u8], n: usize, s: &[u8])
 {
     let at = n * SLOT;
     room[at] = s.len() as u8;
-    room[at + 1..at + 1 + s.len()].copy_from_slice(s);
+    for i in 0..s.len() {
+        room[at + 1 + i] = s[i];
+    }
 }
 
 // The place of a name's hint.

@@ -2,22 +2,16 @@
 use mathlib.Core.Path.{◌≡◌, refl, sym, ap, ap₂, subst, ◌∙◌}
 use mathlib.Core.Bool.{Bool, true, false, ◌||◌, or_assoc}
 use mathlib.Core.List.{List, [], ◌∷◌, ◌++◌}
-use Prim.Native.Nat.{ℕ, ◌+◌, ◌-◌, ◌*◌, ◌≤◌, ◌<◌}
-use native.Mathlib.Omega.{arith}
-use lib.ListN.{length, drop, length-drop}
-use lib.Seq.{paste}
-use Rattle.std.specs.List.{copy_within}
+use Prim.Native.Nat.{ℕ, ◌+◌, ◌-◌, ◌<◌}
+use lib.ListN.{length, drop}
 use Rattle.ground.specs.Lists.{any}
 use Rattle.words.specs.Parts.{part}
-use Rattle.words.proofs.Parts.{part_rest, paste_within, within_wider}
-use Rattle.limits.specs.Limits.{field_terms, term_words, least_scratch}
+use Rattle.words.proofs.Parts.{part_rest}
 use Rattle.algebra.specs.Polynomial.{Poly, equal}
 use Rattle.terms.specs.Terms.{decode}
-use Rattle.terms.proofs.Decode.{decode_paste}
 use Rattle.paper.specs.Rules.{Entry, Store, holds_goal}
 use Rattle.table.specs.Table.{firsts, poly_at, entry_at, store_of_columns}
 use Rattle.table.proofs.Firsts.{behind, firsts_more, firsts_split}
-use Rattle.scratch.specs.Scratch.{stated_at, goal_at, RunAt}
 
 -- ---- runs in the rest of a slice
 pub rests_equal : (m n a b : ℕ) (s : List ℕ)
@@ -58,19 +52,3 @@ module _ {starts counts pool : List ℕ} {g : Poly} where
 
   pub none_end : {j stored : ℕ} → j ≡ stored → NoneIs starts counts pool g j → (indices : List ℕ) → false ≡ holds_goal g (store_of_columns indices starts counts pool stored)
   none_end e none indices = sym (subst (λ (n : ℕ). holds_goal g (store_of_columns indices starts counts pool n) ≡ false) e (none.under indices))
-
--- ---- the goal's region
-pub copied : {n : ℕ} {s r : List ℕ} → n ≤ field_terms → least_scratch ≤ length s → r ≡ copy_within s stated_at (stated_at + n * term_words) goal_at
-    → RunAt goal_at (decode n (drop stated_at s)) s r n
-copied {n} {s} {r} h l e = subst (λ (x : List ℕ). RunAt goal_at (decode n (drop stated_at s)) s x n) (sym f) (record {
-  run = decode_paste n goal_at s (drop stated_at s) (omega arith) enough;
-  few = h;
-  within = within_wider goal_at goal_at (goal_at + n * term_words) (goal_at + field_terms * term_words) s _ (omega arith) (omega arith)
-      (paste_within s goal_at (drop stated_at s) (n * term_words) (omega arith) enough);
-})
-  where
-    enough : n * term_words ≤ length (drop stated_at s)
-    enough = omega (arith, length-drop stated_at s)
-
-    f : r ≡ paste s goal_at (drop stated_at s) (n * term_words)
-    f = let k : stated_at + n * term_words - stated_at ≡ n * term_words = omega arith in e ∙ ap (paste s goal_at (drop stated_at s)) k

@@ -52,7 +52,10 @@ pub fn copy_to_goal(scratch: &mut [u64], n: usize)
     requires { (n ≤ field_terms) × (least_scratch ≤ length scratch.old) }
     ensures { RunAt goal_at (decode n (drop stated_at scratch.old)) scratch.old scratch.new n }
 {
-    scratch.copy_within(STATED..STATED + n * limits::TERM_WORDS, GOAL);
+    for i in 0..n {
+        let t = terms::read_term(scratch, STATED + i * limits::TERM_WORDS);
+        terms::write_term(scratch, GOAL + i * limits::TERM_WORDS, t);
+    }
 }
 
 // Whether the n terms of a goal are one of the stored polynomials.

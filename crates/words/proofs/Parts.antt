@@ -1,6 +1,6 @@
 -- Regions of a list: what a change within one leaves as it was, and what a copy into one does. Assumes nothing.
-use Rattle.std.proofs.Common.{◌≡◌, ℕ, ◌+◌, ◌-◌, ◌≤◌, List, ◌++◌, length, take, drop, sym, refl, ap, ◌∙◌, append_assoc, arith, length-drop, length-take-le, take_all, take-take, take_at, drop_at}
-use lib.Seq.{paste, length-paste, take-paste, drop-paste}
+use Rattle.std.proofs.Common.{◌≡◌, ℕ, ◌+◌, ◌-◌, ◌<◌, ◌≤◌, List, ◌++◌, length, get_or, take, drop, set, sym, refl, ap, ◌∙◌, append_assoc, add-one, arith, length-drop, length-take-le, take_all, take-take, take_at, drop_at}
+use lib.Seq.{paste, paste-suc, length-paste, take-paste, drop-paste}
 use borrow.Rule.Slice.PartMut.{put_mid, take_put, drop_put, same_len_mid, mid_len}
 use Rattle.ground.proofs.Lists.{take_fewer, drop_more, drop_take}
 use Rattle.words.specs.Parts.{part, Within}
@@ -45,6 +45,11 @@ module _ (d : List ℕ) (at : ℕ) (s : List ℕ) (n : ℕ) (hd : at + n ≤ len
 
   pub part_paste : part at n (paste d at s n) ≡ take n s
   part_paste = rw drop_to_paste (take_at (take n s) (drop (at + n) d) n (length-take-le n s hs))
+
+-- a turn of a loop that copies
+pub paste_more : (d : List ℕ) (at : ℕ) (s : List ℕ) (j : ℕ) → at + j < length d → j < length s
+    → set (paste d at s j) (at + j) (get_or s j 0) ≡ paste d at s (j + 1)
+paste_more d at s j hd hs = rw (add-one) (paste-suc d at s j 0 hd hs)
 
 -- ---- a region that was lent
 module _ (s ys : List ℕ) (a e : ℕ) (h : a ≤ e) (l : e ≤ length s) (k : length ys ≡ length (part a (e - a) s)) where

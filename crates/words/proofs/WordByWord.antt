@@ -1,6 +1,6 @@
 -- Sets word by word: what `union`, `with`, `has`, `compare` and `count` do at one word, said of the whole number.
 -- Assumes nothing.
-use Rattle.std.proofs.Common.{◌≡◌, ℕ, zero, suc, ◌+◌, ◌*◌, ◌/◌, ◌%◌, ◌^◌, ◌<◌, ◌≤◌, eqb, List, [], ◌∷◌, length, get_or, take, drop, set, sym, ap, ◌∙◌, subst, ap₂, le_of_suc-le-suc, not-suc-le-zero, add-zero, mod-lt, mul_assoc, one-mul, add-one, arith, drop_of_length-le, drop-cons, pow_pos, pow-add, shl_exact}
+use Rattle.std.proofs.Common.{◌≡◌, ℕ, zero, suc, ◌+◌, ◌*◌, ◌/◌, ◌%◌, ◌^◌, ◌<◌, ◌≤◌, eqb, List, [], ◌∷◌, length, get_or, take, drop, set, sym, ap, ◌∙◌, subst, ap₂, le_of_suc-le-suc, not-suc-le-zero, add-zero, mod-lt, mul_assoc, one-mul, add-one, arith, drop-cons, pow_pos, pow-add, shl_exact}
 use lib.Bits.{bit_and, bit_or, and_mask, or_block, or_lt, or_zero_l, or_zero_r, or_shifted, or_comm}
 use lib.Count.{ones, ones_cat, ones-le}
 use Rattle.std.specs.List.{sum_by}
