@@ -149,11 +149,12 @@ fn an_answer_that_nobody_reads_is_a_failure() {
 
 /// What a program leaves in a pipe that has so many bytes of room and refuses what does not fit. Nobody reads before the program has ended.
 fn leaves_in_a_pipe(mut command: Command, room: usize) -> Vec<u8> {
-    let (mut reader, mut writer) = std::io::pipe().unwrap();
-    writer.write_all(&vec![b'.'; PIPE_BYTES - room]).unwrap();
+    let (mut reader, writer) = std::io::pipe().unwrap();
     let writer = UnixStream::from(OwnedFd::from(writer));
     writer.set_nonblocking(true).unwrap();
-    command.stdin(Stdio::null()).stdout(OwnedFd::from(writer)).stderr(Stdio::null());
+    let mut writer = File::from(OwnedFd::from(writer));
+    writer.write_all(&vec![b'.'; PIPE_BYTES - room]).unwrap();
+    command.stdin(Stdio::null()).stdout(writer).stderr(Stdio::null());
     assert_eq!(command.status().unwrap().code(), Some(2));
     drop(command);
     let mut left = Vec::new();

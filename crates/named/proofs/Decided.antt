@@ -25,10 +25,10 @@ use Rattle.reader.specs.Places.{Got, StopsOr}
 use Rattle.reader.specs.declared.stop.Stop.{Stop}
 use Rattle.reader.proofs.Decided.{same_end, same_stop, not_both}
 use Rattle.names.specs.Names.{number_by, bad_by, names_with}
-use Rattle.names.specs.Numbered.{held_by, SameNames}
+use Rattle.names.specs.Numbered.{held_by}
 use Rattle.names.specs.declared.numbering.Numbering.{Numbering}
 use Rattle.names.proofs.Rooms.{length_held}
-use Rattle.names.proofs.Decided.{same_held}
+use Rattle.names.proofs.Decided.{SameNames, same_held}
 use Rattle.named.specs.Reads.{NamesAre, NameAt, NameIs, MonomialAt, MonomialIs, PolyAt, PolyIs}
 use Rattle.named.specs.declared.name.NameRead.{NameRead}
 use Rattle.named.specs.declared.monomial.MonomialRead.{MonomialRead}

@@ -8,7 +8,7 @@ use Rattle.std.specs.Prelude.{Option, Some, None, is_none}
 use Rattle.paper.specs.Published.{Name}
 use Rattle.paper.proofs.Names.{never}
 use Rattle.names.specs.Names.{held, number_by, bad_by, names_with, PlainIs}
-use Rattle.names.specs.Numbered.{held_by, SameNames, NumberFor, NumberedIs}
+use Rattle.names.specs.Numbered.{held_by, NumberFor, NumberedIs}
 use Rattle.names.specs.declared.numbering.Numbering.{Numbering}
 use Rattle.names.proofs.Rooms.{length_held}
 
@@ -20,6 +20,12 @@ one_plain s (Some v) None x y = never (sym x.0 ∙ y)
 one_plain s (Some v) (Some w) x y = ap Some (x.1 ∙ sym y.1)
 
 -- ---- `Numbering::number`
+-- the same names are held, and numbered alike, wherever the rooms lie and whatever the hints are
+pub record SameNames (m m' : Numbering) : Type 0 where
+  pub plain : m.plain ≡ m'.plain
+  pub names : m.names ≡ m'.names
+  pub room : m.room.now ≡ m'.room.now
+
 pub same_held : {m m' : Numbering} → SameNames m m' → held_by m ≡ held_by m'
 same_held old = λ i. held (old.names i) (old.room i)
 

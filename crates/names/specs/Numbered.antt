@@ -8,12 +8,6 @@ use Rattle.names.specs.declared.numbering.Numbering.{Numbering}
 abbrev pub held_by : Numbering → List Name
 held_by m = held m.names m.room.now
 
--- the same names are held, and numbered alike, wherever the rooms lie and whatever the hints are
-pub record SameNames (m m' : Numbering) : Type 0 where
-  pub plain : m.plain ≡ m'.plain
-  pub names : m.names ≡ m'.names
-  pub room : m.room.now ≡ m'.room.now
-
 -- room and hints are still the caller's that were lent, so what they hold is what the caller finds in them afterwards
 abbrev pub StillLent : Numbering → Numbering → Type 0
 StillLent old new = (new.room.ghost_name ≡ old.room.ghost_name) × (new.hints.ghost_name ≡ old.hints.ghost_name)

@@ -17,8 +17,8 @@ use Rattle.paper.specs.Named.{names_in, with_names, numbered}
 use Rattle.paper.proofs.Names.{never}
 use Rattle.names.specs.declared.numbering.Numbering.{Numbering}
 use Rattle.names.specs.Names.{number_by, bad_by, names_with}
-use Rattle.names.specs.Numbered.{held_by, SameNames}
-use Rattle.names.proofs.Decided.{same_held}
+use Rattle.names.specs.Numbered.{held_by}
+use Rattle.names.proofs.Decided.{SameNames, same_held}
 use Rattle.steps.specs.Items.{ItemIs}
 use Rattle.steps.proofs.ItemsDecided.{SaysWords, SameItem, items_alike}
 use Rattle.published.specs.Statements.{written_by, NamedTells, long, stops, turns, passes, NamedItemIs}
